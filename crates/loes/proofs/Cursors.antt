@@ -1,0 +1,130 @@
+-- The right places are before, after and one for each lot; a step goes from each to the next
+use mathlib.Core.Path.{_≡_, refl, sym, ap, ap₂, _∙_}
+use Prim.Native.Nat.{ℕ, zero, suc, _+_, _-_, _*_, _%_, _≤_, _<_}
+use mathlib.Core.Bool.{Bool, true, false, _&&_, _||_, not, cond, false≢true, or-true}
+use mathlib.Core.List.{List, [], _∷_, _++_, map}
+use mathlib.Core.Option.{Option, none, some}
+use native.Mathlib.Omega.{arith}
+use lib.ListN.{length, take, drop, getD, replicate, length-append, length-replicate, length-take, length-drop, take-append-drop}
+use lib.Seq.{take-at, drop-at, length-take-le}
+use lib.Dec.{eqb, ltb}
+use Rattle.loes.specs.Limits.{maxWidth}
+use Rattle.loes.specs.Bytes.{odd, bit, packBits, sameNumbers, Bytes, front}
+use Rattle.loes.specs.Keys.{Key, any, smaller}
+use Rattle.loes.specs.Edges.{edgeOffsets, rank}
+use Rattle.loes.specs.Entry.{Entry, keyBytes, keysOf, count, edgesOf}
+use Rattle.loes.specs.Refusals.{test, firstOf, badCursor, shortBuffer}
+use Rattle.loes.specs.Model.{refused, wroteKey}
+use Rattle.loes.specs.Cursor.{advanceTests, State, before, at, after, Cursor, allZero, padded, pathOf, isCursorOf, keyOfPath, nextIndex, Advanced, staysOr, hasNext, nextKey, goesTo, goesToAfter, advance}
+use Rattle.loes.proofs.Tests.{lt-yes, lt-no, both, neither, not-false, same-self, same-is, yes-eq}
+use Rattle.loes.proofs.Tree.{bit-le}
+use Rattle.loes.proofs.Bits.{odd-bit}
+use Rattle.loes.proofs.Members.{smaller-at, inside-at}
+
+-- the place at lot i, before and after
+unfoldable pub cursorAt : Entry → ℕ → Cursor
+cursorAt e i = record { state = at; offsets = padded (pathOf e (getD (keysOf e) i [])) }
+
+unfoldable pub noOffsets : State → Cursor
+noOffsets s = record { state = s; offsets = padded [] }
+
+pub length-offsets : (e : List Bool) (r : ℕ) (k : Key) → length (edgeOffsets e r k) ≡ length k
+unfolding edgeOffsets
+length-offsets e r [] = refl
+length-offsets e r (b ∷ k) = ap suc (length-offsets e (rank e (2 * r + bit b)) k)
+
+pub odd-offsets : (e : List Bool) (r : ℕ) (k : Key) → map odd (edgeOffsets e r k) ≡ k
+unfolding edgeOffsets
+odd-offsets e r [] = refl
+odd-offsets e r (b ∷ k) = ap₂ _∷_ (odd-bit b (2 * r + bit b) (omega (arith, bit-le b))) (odd-offsets e (rank e (2 * r + bit b)) k)
+
+zeros-zero : (n : ℕ) → allZero (replicate n 0) ≡ true
+unfolding allZero any
+zeros-zero zero = refl
+zeros-zero (suc n) = zeros-zero n
+
+zeros-is : (l : List ℕ) → allZero l ≡ true → l ≡ replicate (length l) 0
+unfolding allZero any
+zeros-is [] h = refl
+zeros-is (x ∷ l) h = go (eqb x 0) refl h (zeros-is l)
+  where
+    go : (b : Bool) → eqb x 0 ≡ b → not (not b || any (λ (o : ℕ). not (eqb o 0)) l) ≡ true
+        → (not (any (λ (o : ℕ). not (eqb o 0)) l) ≡ true → l ≡ replicate (length l) 0) → x ∷ l ≡ 0 ∷ replicate (length l) 0
+    go true z h f = ap₂ _∷_ (yes-eq x 0 z) (f h)
+    go false z h f = absurd (false≢true h)
+
+any-at : {A : Type 0} (f : A → Bool) (l : List A) (i : ℕ) (d : A) → i < length l → f (getD l i d) ≡ true → any f l ≡ true
+unfolding any
+any-at f [] i d h g = absurd (omega arith)
+any-at f (x ∷ l) zero d h g = rw g
+any-at f (x ∷ l) (suc i) d h g = rw (any-at f l i d (omega arith) g) (or-true (f x))
+
+any-is : {A : Type 0} (f : A → Bool) (l : List A) (d : A) → any f l ≡ true → (i : ℕ) × (i < length l) × (f (getD l i d) ≡ true)
+unfolding any
+any-is f [] d h = absurd (false≢true h)
+any-is {A} f (x ∷ l) d h = go (f x) refl h (any-is f l d)
+  where
+    go : (b : Bool) → f x ≡ b → (b || any f l) ≡ true → (any f l ≡ true → (i : ℕ) × (i < length l) × (f (getD l i d) ≡ true))
+        → (i : ℕ) × (i < suc (length l)) × (f (getD (x ∷ l) i d) ≡ true)
+    go true z h g = (0, omega arith, z)
+    go false z h g = let r = g h in (suc (r .0), omega (arith, r .1), r .2)
+
+path-length : (e : Entry) (i : ℕ) → i < count e → length (pathOf e (getD (keysOf e) i [])) ≡ e .width
+unfolding pathOf
+path-length e i h = length-offsets (edgesOf e) 0 (getD (keysOf e) i []) ∙ inside-at e i h .0
+
+take-path : (e : Entry) (i : ℕ) → i < count e → take (e .width) (padded (pathOf e (getD (keysOf e) i []))) ≡ pathOf e (getD (keysOf e) i [])
+unfolding padded
+take-path e i h = take-at (pathOf e (getD (keysOf e) i [])) _ (e .width) (path-length e i h)
+
+drop-path : (e : Entry) (i : ℕ) → i < count e → drop (e .width) (padded (pathOf e (getD (keysOf e) i []))) ≡ replicate (maxWidth - e .width) 0
+unfolding padded
+drop-path e i h =
+    drop-at (pathOf e (getD (keysOf e) i [])) _ (e .width) (path-length e i h) ∙ ap (λ n. replicate (maxWidth - n) 0) (path-length e i h)
+
+pub right-at : (e : Entry) (i : ℕ) → i < count e → isCursorOf e (cursorAt e i) ≡ true
+unfolding isCursorOf cursorAt count
+right-at e i h =
+    rw (
+      take-path e i h,
+      drop-path e i h,
+      zeros-zero (maxWidth - e .width),
+      any-at (λ (k : Key). sameNumbers (pathOf e k) (pathOf e (getD (keysOf e) i []))) (keysOf e) i [] h (same-self (pathOf e (getD (keysOf e) i []))),
+    )
+
+pub right-none : (e : Entry) → (isCursorOf e (noOffsets before) ≡ true) × (isCursorOf e (noOffsets after) ≡ true)
+unfolding isCursorOf noOffsets padded
+right-none e = (zeros-zero 256, zeros-zero 256)
+
+-- and these are all
+pub right-is : (e : Entry) (os : List ℕ) → length os ≡ maxWidth → isCursorOf e (record { state = at; offsets = os }) ≡ true
+    → (i : ℕ) × (i < count e) × (record { state = at; offsets = os } ≡ cursorAt e i)
+unfolding isCursorOf cursorAt count padded
+right-is e os l h =
+    let b = both (any (λ (k : Key). sameNumbers (pathOf e k) (take (e .width) os)) (keysOf e)) (allZero (drop (e .width) os)) h in
+    let r = any-is (λ (k : Key). sameNumbers (pathOf e k) (take (e .width) os)) (keysOf e) [] (b .0) in
+    let k : Key = getD (keysOf e) (r .0) [] in
+    let t : pathOf e k ≡ take (e .width) os = same-is (pathOf e k) (take (e .width) os) (r .2) in
+    let n : length (pathOf e k) ≡ e .width = path-length e (r .0) (unfold count in r .1) in
+    let d : length (drop (e .width) os) ≡ maxWidth - length (pathOf e k) = length-drop (e .width) os ∙ ap₂ _-_ l (sym n) in
+    let z : drop (e .width) os ≡ replicate (maxWidth - length (pathOf e k)) 0 = zeros-is (drop (e .width) os) (b .1) ∙ ap (λ x. replicate x 0) d in
+    let w : os ≡ pathOf e k ++ replicate (maxWidth - length (pathOf e k)) 0 = sym (take-append-drop (e .width) os) ∙ ap₂ _++_ (sym t) z in
+    (r .0, r .1, ap (λ (x : List ℕ). record { state = at; offsets = x }) w)
+
+pub right-bare : (e : Entry) (os : List ℕ) → length os ≡ maxWidth → allZero os ≡ true → os ≡ padded []
+unfolding padded
+right-bare e os l h = zeros-is os h ∙ ap (λ n. replicate n 0) l
+
+pub next-at : (e : Entry) (i : ℕ) → i < count e → nextIndex e (cursorAt e i) ≡ suc i
+unfolding nextIndex cursorAt keyOfPath pathOf
+next-at e i h = ap suc (ap (λ k. smaller k (keysOf e)) (ap (map odd) (take-path e i h) ∙ odd-offsets (edgesOf e) 0 (getD (keysOf e) i [])) ∙ smaller-at e i h)
+
+-- a step with room: to the lot after, or to after
+pub advance-on : (e : Entry) (p : Cursor) (out : Bytes) (j : ℕ) → isCursorOf e p ≡ true → nextIndex e p ≡ j → j < count e → keyBytes (e .width) ≤ length out
+    → advance e p out ≡ record { answer = wroteKey (keyBytes (e .width)); buffer = front (packBits (getD (keysOf e) j [])) out; cursor = cursorAt e j }
+unfolding advance advanceTests goesTo hasNext nextKey cursorAt firstOf test staysOr
+advance-on e p out j r n h g = rw (r, n, lt-yes j (count e) h, lt-no (length out) (keyBytes (e .width)) g)
+
+pub advance-out : (e : Entry) (p : Cursor) (out : Bytes) → isCursorOf e p ≡ true → count e ≤ nextIndex e p → advance e p out ≡ record { answer = wroteKey 0; buffer = out; cursor = noOffsets after }
+unfolding advance advanceTests goesToAfter hasNext nextKey noOffsets firstOf test staysOr
+advance-out e p out r n = rw (r, lt-no (nextIndex e p) (count e) n)

@@ -1,0 +1,93 @@
+-- A refused call leaves every lent buffer, and a walk's place, as they were
+use mathlib.Core.Path.{_≡_, refl, sym, ap, subst}
+use Prim.Native.Nat.{ℕ, zero, suc, _-_}
+use mathlib.Core.Bool.{Bool, true, false, cond}
+use mathlib.Core.List.{List, [], _∷_}
+use mathlib.Core.Option.{Option, none, some}
+use Rattle.loes.specs.Bytes.{Bytes}
+use Rattle.loes.specs.Entry.{Entry}
+use Rattle.loes.specs.Encode.{encode}
+use Rattle.loes.specs.Refusals.{Tests, firstOf}
+use Rattle.loes.specs.Read.{Reading, rejected, opened, read}
+use Rattle.loes.specs.Model.{Answer, refused, wrote, wroteKey, indexIs, rankIs, isPresent, isAbsent, isNone, tells, Outcome, Step, refusal, refusedOr, tested, writes, writesKey, answers, pack, union, difference, contains, indexOf, keyAt, rankAt, lowerBound, opens}
+use Rattle.loes.specs.Calls.{afterReading, reading, packCall, unionCall, differenceCall, containsCall, indexOfCall, keyAtCall, rankCall, lowerBoundCall, openCall}
+use Rattle.loes.specs.Cursor.{Cursor, Advanced, staysOr, stays, hasNext, nextKey, goesTo, goesToAfter, advance, advanceReading, advanceCall}
+
+abbrev pub Keeps : Outcome → List Bytes → Type 0
+Keeps o bufs = (k : ℕ) → o .answer ≡ refused k → o .buffers ≡ bufs
+
+abbrev Accepts : Answer → Type 0
+Accepts (refused k) = ⊥
+Accepts (wrote ns) = Unit {0}
+Accepts (wroteKey n) = Unit {0}
+Accepts (indexIs n) = Unit {0}
+Accepts (rankIs n) = Unit {0}
+Accepts isPresent = Unit {0}
+Accepts isAbsent = Unit {0}
+Accepts isNone = Unit {0}
+Accepts (tells m n b) = Unit {0}
+
+either-accepts : (c : Bool) (a b : Answer) → Accepts a → Accepts b → Accepts (cond c a b)
+either-accepts true a b h g = h
+either-accepts false a b h g = g
+
+tested-keeps : (ts : Tests) (bufs : List Bytes) (done : Step) → Accepts (done .outcome .answer) → Keeps (tested ts bufs done .outcome) bufs
+unfolding tested refusedOr refusal
+tested-keeps ts bufs done h = go (firstOf ts)
+  where
+    go : (o : Option ℕ) → Keeps (refusedOr o bufs done .outcome) bufs
+    go none k e = absurd (subst Accepts e h)
+    go (some n) k e = refl
+
+reading-keeps : (l : Bytes) (bufs : List Bytes) (next : Entry → Outcome) → ((e : Entry) → Keeps (next e) bufs) → Keeps (reading l bufs next) bufs
+unfolding reading afterReading refusal
+reading-keeps l bufs next h = go (read l)
+  where
+    go : (r : Reading) → Keeps (afterReading r bufs next) bufs
+    go (rejected n) k e = refl
+    go (opened e) k z = h e k z
+
+writes-keeps : (ts : Tests) (es : List Entry) (bufs : List Bytes) → Keeps (writes ts es bufs .outcome) bufs
+unfolding writes
+writes-keeps ts es bufs = tested-keeps _ bufs _ tt
+
+key-keeps : (ts : Tests) (t : ℕ) (k : List Bool) (out : Bytes) → Keeps (writesKey ts t k out .outcome) (out ∷ [])
+unfolding writesKey
+key-keeps ts t k out = tested-keeps _ (out ∷ []) _ tt
+
+answers-keeps : (ts : Tests) (a : Answer) → Accepts a → Keeps (answers ts a .outcome) []
+unfolding answers
+answers-keeps ts a h = tested-keeps ts [] _ h
+
+pub record RefusalsKeep : Type 0 where
+  pub pack : (m : ℕ) (batch out : Bytes) → Keeps (packCall m batch out) (out ∷ [])
+  pub union : (a b out : Bytes) → Keeps (unionCall a b out) (out ∷ [])
+  pub difference : (a b out : Bytes) → Keeps (differenceCall a b out) (out ∷ [])
+  pub ticket : (a : Bytes) (i : ℕ) (out : Bytes) → Keeps (keyAtCall a i out) (out ∷ [])
+  pub advance : (a : Bytes) (p : Cursor) (out : Bytes) (k : ℕ) → advanceCall a p out .answer ≡ refused k → (advanceCall a p out .buffer ≡ out) × (advanceCall a p out .cursor ≡ p)
+
+if-keeps : (o : Option ℕ) (p : Cursor) (out : Bytes) (done : Advanced) → Accepts (done .answer) → (k : ℕ) → staysOr o p out done .answer ≡ refused k
+    → (staysOr o p out done .buffer ≡ out) × (staysOr o p out done .cursor ≡ p)
+unfolding staysOr stays
+if-keeps none p out done h k e = absurd (subst Accepts e h)
+if-keeps (some n) p out done h k e = (refl, refl)
+
+advanced-keeps : (e : Entry) (p : Cursor) (out : Bytes) (k : ℕ) → advance e p out .answer ≡ refused k → (advance e p out .buffer ≡ out) × (advance e p out .cursor ≡ p)
+unfolding advance goesTo goesToAfter
+advanced-keeps e p out k h =
+    if-keeps _ p out _ (elim (hasNext e p) as (λ b. Accepts (cond b (goesTo e (nextKey e p) out) (goesToAfter out) .answer)) [ true ↦ tt | false ↦ tt ]) k h
+
+pub refusals-keep : RefusalsKeep
+unfolding packCall pack unionCall union differenceCall difference keyAtCall keyAt advanceCall
+refusals-keep =
+    record {
+      pack = λ m batch out. writes-keeps _ _ (out ∷ []);
+      union = λ a b out. reading-keeps a (out ∷ []) _ (λ e. reading-keeps b (out ∷ []) _ (λ f. writes-keeps _ _ (out ∷ [])));
+      difference = λ a b out. reading-keeps a (out ∷ []) _ (λ e. reading-keeps b (out ∷ []) _ (λ f. writes-keeps _ _ (out ∷ [])));
+      ticket = λ a i out. reading-keeps a (out ∷ []) _ (λ e. key-keeps _ _ _ out);
+      advance = λ a p out. given-keeps p out (read a);
+    }
+  where
+    given-keeps : (p : Cursor) (out : Bytes) (r : Reading) (k : ℕ) → advanceReading r p out .answer ≡ refused k → (advanceReading r p out .buffer ≡ out) × (advanceReading r p out .cursor ≡ p)
+    given-keeps p out (rejected n) k h = unfold advanceReading stays in (refl, refl)
+    given-keeps p out (opened e) k h = unfold advanceReading in advanced-keeps e p out k (unfold advanceReading in h)

@@ -1,0 +1,20 @@
+-- The theory. Each file is one idea; laws are named by what they say.
+pub mod Lists
+pub mod Tests
+pub mod Tree
+pub mod Navigation
+pub mod Forest
+pub mod Bytes
+pub mod Bits
+pub mod Numbers
+pub mod Extensional
+pub mod WellFormed
+pub mod Paths
+pub mod Reading
+pub mod Seven
+pub mod Members
+pub mod Histories
+pub mod Cursors
+pub mod Kept
+pub mod Corollaries
+pub mod Examples

@@ -1,0 +1,131 @@
+-- A flat bit sequence is the edge sequence of a set exactly if it is well formed, level by level
+use mathlib.Core.Path.{_≡_, refl, sym, ap, ap₂, _∙_}
+use Prim.Native.Nat.{ℕ, zero, suc, _+_, _-_, _*_, _≤_, _<_}
+use mathlib.Core.Bool.{Bool, true, false, _&&_, _||_, cond, false≢true, or-true}
+use mathlib.Core.List.{List, [], _∷_, _++_, append-assoc, append-nil, map, map-append}
+use native.Mathlib.Omega.{arith}
+use lib.ListN.{length, take, drop, getD, length-append, length-drop, take-append-drop, drop-of-length-le}
+use lib.Seq.{length-take-le, take-suc, take-all, drop-append-seam, drop-at, take-at, drop-drop, drop-append-add, take-append-seam, drop-length, drop-append-le}
+use Rattle.loes.specs.Bytes.{bit, join}
+use Rattle.loes.specs.Keys.{Key, KeySet}
+use Rattle.loes.specs.Edges.{Record, recordBits, ones, edges, edgesBefore, level, present}
+use Rattle.loes.proofs.Lists.{length-bits}
+use Rattle.loes.proofs.Tree.{half, inhabited, rootRecord, treeLevel, prefixCount, tree-empty, level-tree, length-tree, ones-tree, count-one}
+use Rattle.loes.proofs.Navigation.{edges-at, recordsBefore, length-edgesBefore, present-is}
+use Rattle.loes.proofs.Extensional.{edges-ext}
+use Rattle.loes.proofs.Forest.{NoEmpty, Levels, SetOf, complete}
+
+-- the records of a bit sequence
+unfoldable pub recordsIn : List Bool → List Record
+recordsIn [] = []
+recordsIn (a ∷ []) = []
+recordsIn (a ∷ b ∷ e) = record { onZero = a; onOne = b } ∷ recordsIn e
+
+pub records-bits : (l : List Record) → recordsIn (recordBits l) ≡ l
+unfolding recordsIn recordBits
+records-bits [] = refl
+records-bits (r ∷ l) = rw (records-bits l)
+
+pub bits-records : (n : ℕ) (e : List Bool) → length e ≡ 2 * n → (recordBits (recordsIn e) ≡ e) × (length (recordsIn e) ≡ n)
+unfolding recordsIn recordBits
+bits-records zero [] h = (refl, refl)
+bits-records (suc n) [] h = absurd (omega arith)
+bits-records n (a ∷ []) h = absurd (omega arith)
+bits-records zero (a ∷ b ∷ e) h = absurd (omega arith)
+bits-records (suc n) (a ∷ b ∷ e) h =
+    let r : (recordBits (recordsIn e) ≡ e) × (length (recordsIn e) ≡ n) = bits-records n e (omega arith) in
+    (rw (r .0), ap suc (r .1))
+
+-- m levels, the first of r records
+abbrev pub WellFormed : ℕ → ℕ → List Bool → Type 0
+WellFormed zero r e = e ≡ []
+WellFormed (suc m) r e = (2 * r ≤ length e) × NoEmpty (recordsIn (take (2 * r) e)) × WellFormed m (ones (take (2 * r) e)) (drop (2 * r) e)
+
+pub record Split (m r : ℕ) (e : List Bool) : Type 0 where
+  pub levels : List (List Record)
+  pub count : length levels ≡ m
+  pub good : Levels r levels
+  pub whole : join (map recordBits levels) ≡ e
+
+pub split : (m r : ℕ) (e : List Bool) → WellFormed m r e → Split m r e
+unfolding join
+split zero r e w = record { levels = []; count = refl; good = tt; whole = sym w }
+split (suc m) r e w =
+    let f : List Bool = take (2 * r) e in
+    let l : (recordBits (recordsIn f) ≡ f) × (length (recordsIn f) ≡ r) = bits-records r f (length-take-le (2 * r) e (w .0)) in
+    let t : Split m (ones f) (drop (2 * r) e) = split m (ones f) (drop (2 * r) e) (w .2) in
+    record {
+      levels = recordsIn f ∷ t .levels;
+      count = ap suc (t .count);
+      good = (l .1, w .1, rw (l .0) (t .good));
+      whole = rw (l .0, t .whole) (take-append-drop (2 * r) e);
+    }
+
+pub join-snoc : {A : Type 0} (l : List (List A)) (x : List A) → join (l ++ x ∷ []) ≡ join l ++ x
+unfolding join
+join-snoc [] x = append-nil x
+join-snoc (y ∷ l) x = rw (join-snoc l x) (sym (append-assoc y (join l) x))
+
+edgesBefore-levels : (ls : List (List Record)) (s : KeySet) → ((d : ℕ) → d < length ls → level d (length ls) s ≡ getD ls d [])
+    → (d : ℕ) → d ≤ length ls → edgesBefore d (length ls) s ≡ join (map recordBits (take d ls))
+unfolding edgesBefore join
+edgesBefore-levels ls s h zero l = refl
+edgesBefore-levels ls s h (suc d) l =
+    rw (edgesBefore-levels ls s h d (omega arith), h d l, take-suc ls d [], map-append, join-snoc)
+
+-- (e) a well-formed sequence is the edge sequence of a set with a ticket
+pub well-set : (m : ℕ) (e : List Bool) → WellFormed m 1 e → (s : KeySet) × (inhabited m s ≡ true) × (edges m s ≡ e)
+unfolding edges
+well-set m e w =
+    let t : Split m 1 e = split m 1 e w in
+    let c : SetOf (t .levels) = complete (t .levels) (t .good) in
+    let g : edgesBefore (length (t .levels)) (length (t .levels)) (c .0) ≡ e =
+    edgesBefore-levels (t .levels) (c .0) (c .2) (length (t .levels)) (omega arith)
+    ∙ rw (take-all (length (t .levels)) (t .levels) (omega arith)) (t .whole) in
+    (c .0, rw (t .count) at (c .1), rw (t .count) at g)
+
+-- and the other way
+pub no-empty-append : (l r : List Record) → NoEmpty l → NoEmpty r → NoEmpty (l ++ r)
+no-empty-append [] r h k = k
+no-empty-append (x ∷ l) r h k = (h .0, no-empty-append l r (h .1) k)
+
+no-empty-root : (a b : Bool) → NoEmpty (rootRecord a b)
+unfolding rootRecord
+no-empty-root false false = tt
+no-empty-root false true = (refl, tt)
+no-empty-root true b = (refl, tt)
+
+pub no-empty-tree : (d m : ℕ) (s : KeySet) → NoEmpty (treeLevel d m s)
+unfolding treeLevel
+no-empty-tree zero zero s = tt
+no-empty-tree zero (suc m) s = no-empty-root (inhabited m (half false s)) (inhabited m (half true s))
+no-empty-tree (suc d) zero s = tt
+no-empty-tree (suc d) (suc m) s =
+    no-empty-append (treeLevel d m (half false s)) (treeLevel d m (half true s)) (no-empty-tree d m (half false s)) (no-empty-tree d m (half true s))
+
+well-from : (j d m : ℕ) (s : KeySet) → d + j ≡ m → WellFormed j (prefixCount d m s) (drop (2 * recordsBefore d m s) (edges m s))
+unfolding recordsBefore edges
+well-from zero d m s h =
+    let q : d ≡ m = omega arith in
+    rw q (drop-of-length-le (edgesBefore m m s) {i = 2 * recordsBefore m m s} (omega (arith, length-edgesBefore m m s (omega arith))))
+well-from (suc j) d m s h =
+    let q : d < m = omega arith in
+    let n : length (recordBits (treeLevel d m s)) ≡ 2 * prefixCount d m s = length-bits (treeLevel d m s) ∙ ap (λ x. 2 * x) (length-tree d m s q) in
+    let x : List Bool = edges-at d m s q .0 in
+    let a : drop (2 * recordsBefore d m s) (edges m s) ≡ recordBits (treeLevel d m s) ++ x =
+    rw (edges-at d m s q .1) (drop-at (edgesBefore d m s) (recordBits (treeLevel d m s) ++ x) (2 * recordsBefore d m s) (length-edgesBefore d m s (omega arith))) in
+    let tk : take (2 * prefixCount d m s) (drop (2 * recordsBefore d m s) (edges m s)) ≡ recordBits (treeLevel d m s) = rw a (take-at (recordBits (treeLevel d m s)) x (2 * prefixCount d m s) n) in
+    let dr : drop (2 * prefixCount d m s) (drop (2 * recordsBefore d m s) (edges m s)) ≡ drop (2 * recordsBefore (suc d) m s) (edges m s) =
+    let z : 2 * recordsBefore d m s + 2 * prefixCount d m s ≡ 2 * recordsBefore (suc d) m s = omega arith in
+    drop-drop (2 * prefixCount d m s) (2 * recordsBefore d m s) (edges m s) ∙ rw z in
+    (rw (a, length-append (recordBits (treeLevel d m s)) x) (omega arith), rw (tk, records-bits) (no-empty-tree d m s), rw (tk, dr, ones-tree) (well-from j (suc d) m s (omega arith)))
+
+pub set-well : (m : ℕ) (s : KeySet) → inhabited m s ≡ true → WellFormed m 1 (edges m s)
+unfolding recordsBefore
+set-well m s h = rw (count-one m s h) at (well-from m 0 m s (omega arith))
+
+-- the set is read back by following edges
+pub well-present : (m : ℕ) (e : List Bool) → WellFormed (suc m) 1 e → edges (suc m) (present e) ≡ e
+well-present m e w =
+    let c : (s : KeySet) × (inhabited (suc m) s ≡ true) × (edges (suc m) s ≡ e) = well-set (suc m) e w in
+    edges-ext (suc m) (present e) (c .0) (λ k l. ap (λ x. present x k) (sym (c .2)) ∙ present-is k (suc m) (c .0) l (omega arith)) ∙ c .2

@@ -1,0 +1,135 @@
+-- Histories: one list of calls, run by a store of encodings (document 01: the shelf) and by the model of plain sets (document 01: the table).
+use mathlib.Core.Path.{_≡_}
+use mathlib.Core.Logic.{_↔_}
+use Prim.Native.Nat.{ℕ, zero, suc, _<_}
+use mathlib.Core.Bool.{false}
+use mathlib.Core.List.{List, [], _∷_, _++_}
+use mathlib.Core.Option.{Option, none, some}
+use lib.ListN.{length, take, getD}
+use Rattle.loes.specs.Bytes.{Bytes}
+use Rattle.loes.specs.Entry.{Entry, SameEntry}
+use Rattle.loes.specs.Encode.{encode}
+use Rattle.loes.specs.Model.{Answer, refused, wrote, wroteKey, tells, isPresent, isAbsent, isNone, indexIs, rankIs, Outcome, Step, pack, union, difference, contains, indexOf, keyAt, rankAt, lowerBound}
+use Rattle.loes.specs.Calls.{packCall, unionCall, differenceCall, containsCall, indexOfCall, keyAtCall, rankCall, lowerBoundCall}
+
+-- A call as a history has it: encodings by their places in the store, counted from 0, and whatever else it is given; its output buffer comes last.
+pub data Call : Type 0 where
+  -- a width and a batch
+  doPack : ℕ → Bytes → Bytes → Call
+  -- two places
+  doUnion : ℕ → ℕ → Bytes → Call
+  doDifference : ℕ → ℕ → Bytes → Call
+  -- a place and a key
+  askContains : ℕ → Bytes → Call
+  askIndexOf : ℕ → Bytes → Call
+  askLowerBound : ℕ → Bytes → Call
+  -- a place and an index
+  askKeyAt : ℕ → ℕ → Bytes → Call
+  -- a place and an offset
+  askRank : ℕ → ℕ → Call
+
+-- what follows for the element at a place; a place not yet filled is no call
+unfoldable pub atPlace : {A B : Type 0} → List A → ℕ → (A → Option B) → Option B
+atPlace [] i next = none
+atPlace (x ∷ l) zero next = next x
+atPlace (x ∷ l) (suc i) next = atPlace l i next
+
+-- ---- The model: it never looks at the store
+unfoldable pub modelCall : List Entry → Call → Option Step
+modelCall t (doPack m batch out) = some (pack m batch out)
+modelCall t (doUnion i j out) = atPlace t i λ e. atPlace t j λ f. some (union e f out)
+modelCall t (doDifference i j out) = atPlace t i λ e. atPlace t j λ f. some (difference e f out)
+modelCall t (askContains i x) = atPlace t i λ e. some (contains e x)
+modelCall t (askIndexOf i x) = atPlace t i λ e. some (indexOf e x)
+modelCall t (askLowerBound i x) = atPlace t i λ e. some (lowerBound e x)
+modelCall t (askKeyAt i n out) = atPlace t i λ e. some (keyAt e n out)
+modelCall t (askRank i o) = atPlace t i λ e. some (rankAt e o)
+
+unfoldable pub addedBy : Option Step → List Entry
+addedBy none = []
+addedBy (some s) = s .added
+
+unfoldable pub outcomeOf : Option Step → Option Outcome
+outcomeOf none = none
+outcomeOf (some s) = some (s .outcome)
+
+-- the entries after a history, and its outcomes call by call (none: no call)
+unfoldable pub modelFrom : List Entry → List Call → List Entry
+modelFrom t [] = t
+modelFrom t (c ∷ h) = modelFrom (t ++ addedBy (modelCall t c)) h
+
+unfoldable pub modelSays : List Entry → List Call → List (Option Outcome)
+modelSays t [] = []
+modelSays t (c ∷ h) = outcomeOf (modelCall t c) ∷ modelSays (t ++ addedBy (modelCall t c)) h
+
+-- ---- The store: each call is lent exactly the bytes there, and does what it does on bytes
+unfoldable pub storeCall : List Bytes → Call → Option Outcome
+storeCall s (doPack m batch out) = some (packCall m batch out)
+storeCall s (doUnion i j out) = atPlace s i λ a. atPlace s j λ b. some (unionCall a b out)
+storeCall s (doDifference i j out) = atPlace s i λ a. atPlace s j λ b. some (differenceCall a b out)
+storeCall s (askContains i x) = atPlace s i λ a. some (containsCall a x)
+storeCall s (askIndexOf i x) = atPlace s i λ a. some (indexOfCall a x)
+storeCall s (askLowerBound i x) = atPlace s i λ a. some (lowerBoundCall a x)
+storeCall s (askKeyAt i n out) = atPlace s i λ a. some (keyAtCall a n out)
+storeCall s (askRank i o) = atPlace s i λ a. some (rankCall a o)
+
+-- the fronts of the output buffers, as long as the lengths returned
+unfoldable pub cut : List ℕ → List Bytes → List Bytes
+cut [] bufs = []
+cut (n ∷ ns) [] = []
+cut (n ∷ ns) (buf ∷ bufs) = take n buf ∷ cut ns bufs
+
+-- an accepted call that writes encodings adds them, in order; any other adds nothing
+unfoldable pub writtenWith : Answer → List Bytes → List Bytes
+writtenWith (wrote ns) bufs = cut ns bufs
+writtenWith (refused k) bufs = []
+writtenWith (wroteKey n) bufs = []
+writtenWith (tells m n b) bufs = []
+writtenWith isPresent bufs = []
+writtenWith isAbsent bufs = []
+writtenWith isNone bufs = []
+writtenWith (indexIs n) bufs = []
+writtenWith (rankIs n) bufs = []
+
+unfoldable pub writtenBy : Option Outcome → List Bytes
+writtenBy none = []
+writtenBy (some o) = writtenWith (o .answer) (o .buffers)
+
+unfoldable pub storeFrom : List Bytes → List Call → List Bytes
+storeFrom s [] = s
+storeFrom s (c ∷ h) = storeFrom (s ++ writtenBy (storeCall s c)) h
+
+unfoldable pub storeSays : List Bytes → List Call → List (Option Outcome)
+storeSays s [] = []
+storeSays s (c ∷ h) = storeCall s c ∷ storeSays (s ++ writtenBy (storeCall s c)) h
+
+-- ---- Demand 3
+-- at first there are none
+unfoldable pub modelAfter : List Call → List Entry
+modelAfter h = modelFrom [] h
+
+unfoldable pub storeAfter : List Call → List Bytes
+storeAfter h = storeFrom [] h
+
+-- what stands for an entry outside the list
+unfoldable pub noEntry : Entry
+noEntry = record { width = 0; set = λ k. false }
+
+-- after a history
+pub record After (h : List Call) : Type 0 where
+  -- every call was accepted or refused, and answered, as the model says, and every byte of its output buffers is the same
+  pub outcomes : storeSays [] h ≡ modelSays [] h
+  -- the store has as many encodings as the model has entries
+  pub counts : length (storeAfter h) ≡ length (modelAfter h)
+  -- and each is byte for byte the encoding of its entry
+  pub encodings : (i : ℕ) → i < length (storeAfter h) → getD (storeAfter h) i [] ≡ encode (getD (modelAfter h) i noEntry)
+
+-- an encoding made by one history and one made by another are equal byte for byte exactly when their entries have the same width and the same keys
+pub record Between (g h : List Call) : Type 0 where
+  pub equal : (i j : ℕ) → i < length (storeAfter g) → j < length (storeAfter h)
+      → (getD (storeAfter g) i [] ≡ getD (storeAfter h) j []) ↔ SameEntry (getD (modelAfter g) i noEntry) (getD (modelAfter h) j noEntry)
+
+-- for every history, and for every two, which may be the same one
+pub record HistoriesAgree : Type 0 where
+  pub one : (h : List Call) → After h
+  pub two : (g h : List Call) → Between g h

@@ -1,0 +1,164 @@
+-- The model: what each call answers on entries, and every lent buffer after it (document 01: the table's steps).
+use Prim.Native.Nat.{ℕ, _*_, _/_, _%_}
+use mathlib.Core.Bool.{Bool, true, false, _||_, cond, not}
+use mathlib.Core.List.{List, [], _∷_, _++_, map}
+use mathlib.Core.Option.{Option, none, some}
+use lib.ListN.{length, take, drop, getD}
+use lib.Dec.{eqb, ltb}
+use Rattle.loes.specs.Bytes.{Bytes, tabulate, packBits, bitsIn, front}
+use Rattle.loes.specs.Keys.{Key, any, less, smaller, setOf, either, without}
+use Rattle.loes.specs.Edges.{rank}
+use Rattle.loes.specs.Entry.{Entry, keyBytes, keysOf, count, edgesOf, edgeCount, withSet, wrongWidth, tooManyEdges}
+use Rattle.loes.specs.Encode.{encode}
+use Rattle.loes.specs.Refusals.{badWidth, tooLarge, badKey, outOfRange, raggedBatch, unusedBitSet, descending, twoWidths, shortBuffer, Tests, test, firstOf}
+
+-- ---- Answers and outcomes
+pub data Answer : Type 0 where
+  -- refused, with this number alone
+  refused : ℕ → Answer
+  -- wrote encodings of these lengths, in order
+  wrote : List ℕ → Answer
+  -- wrote a key of so many bytes; 0: a cursor went to after
+  wroteKey : ℕ → Answer
+  -- m, n and b
+  tells : ℕ → ℕ → ℕ → Answer
+  isPresent isAbsent isNone : Answer
+  indexIs : ℕ → Answer
+  rankIs : ℕ → Answer
+
+-- what is returned, and the lent output buffers after the call
+pub record Outcome : Type 0 where
+  pub answer : Answer
+  pub buffers : List Bytes
+
+-- a step of the model: its outcome, and the entries it adds
+pub record Step : Type 0 where
+  pub outcome : Outcome
+  pub added : List Entry
+
+-- ---- Refused or done
+-- refused: nothing is added, every byte stays
+unfoldable pub refusal : ℕ → List Bytes → Step
+refusal k bufs = record { outcome = record { answer = refused k; buffers = bufs }; added = [] }
+
+unfoldable pub refusedOr : Option ℕ → List Bytes → Step → Step
+refusedOr none bufs done = done
+refusedOr (some k) bufs done = refusal k bufs
+
+-- a call with these tests and these buffers, and what it does if no test holds
+unfoldable pub tested : Tests → List Bytes → Step → Step
+tested ts bufs done = refusedOr (firstOf ts) bufs done
+
+-- nothing is written
+unfoldable pub answers : Tests → Answer → Step
+answers ts a = tested ts [] (record { outcome = record { answer = a; buffers = [] }; added = [] })
+
+-- ---- Encodings that are written, each to the front of its own buffer
+unfoldable pub fronts : List Bytes → List Bytes → List Bytes
+fronts [] bufs = bufs
+fronts (x ∷ xs) [] = []
+fronts (x ∷ xs) (buf ∷ bufs) = front x buf ∷ fronts xs bufs
+
+-- a buffer is missing or too short
+unfoldable pub anyShort : List Bytes → List Bytes → Bool
+anyShort [] bufs = false
+anyShort (x ∷ xs) [] = true
+anyShort (x ∷ xs) (buf ∷ bufs) = ltb (length buf) (length x) || anyShort xs bufs
+
+-- the call's own tests, then 5, 14
+unfoldable pub writes : Tests → List Entry → List Bytes → Step
+writes ts es bufs =
+    tested
+    (ts ++ test (any (λ (e : Entry). tooManyEdges (edgeCount e)) es) tooLarge ∷ test (anyShort (map encode es) bufs) shortBuffer ∷ [])
+    bufs
+    (record {
+      outcome = record { answer = wrote (map (λ (e : Entry). length (encode e)) es); buffers = fronts (map encode es) bufs };
+      added = es;
+    })
+
+-- ---- A key that is written: the call's own tests, then 14
+unfoldable pub writesKey : Tests → ℕ → Key → Bytes → Step
+writesKey ts m k out =
+    tested (ts ++ test (ltb (length out) (keyBytes m)) shortBuffer ∷ []) (out ∷ [])
+    (record { outcome = record { answer = wroteKey (keyBytes m); buffers = front (packBits k) out ∷ [] }; added = [] })
+
+-- ---- Keys as they are given
+-- the key of m bits in bytes
+unfoldable pub keyIn : ℕ → Bytes → Key
+keyIn m x = bitsIn x m
+
+-- one of the bits behind the m bits is set
+unfoldable pub unusedSet : ℕ → Bytes → Bool
+unusedSet m x = any (λ (b : Bool). b) (drop m (bitsIn x (8 * keyBytes m)))
+
+-- 8: not t bytes, or an unused bit set
+unfoldable pub keyTest : Entry → Bytes → Option ℕ
+keyTest e x = test (not (eqb (length x) (keyBytes (e .width))) || unusedSet (e .width) x) badKey
+
+-- 9: not below
+unfoldable pub belowTest : ℕ → ℕ → Option ℕ
+belowTest i n = test (not (ltb i n)) outOfRange
+
+-- ---- Pack
+-- the keys of a batch, laid end to end, t bytes each
+unfoldable pub batchKeys : ℕ → Bytes → List Bytes
+batchKeys m batch = tabulate (λ (i : ℕ). take (keyBytes m) (drop (keyBytes m * i) batch)) (length batch / keyBytes m)
+
+-- key by key: 11, and 12 against the one before it (in front of the first stands [], and nothing is smaller than that)
+unfoldable pub risingTests : ℕ → Key → List Bytes → Tests
+risingTests m before [] = []
+risingTests m before (x ∷ l) =
+    test (unusedSet m x) unusedBitSet ∷ test (less (keyIn m x) before) descending ∷ risingTests m (keyIn m x) l
+
+-- 4, 10, then key by key
+unfoldable pub packTests : ℕ → Bytes → Tests
+packTests m batch =
+    test (wrongWidth m) badWidth
+    ∷ test (not (eqb (length batch % keyBytes m) 0)) raggedBatch
+    ∷ risingTests m [] (batchKeys m batch)
+
+-- the width and the set of the batch's keys
+unfoldable pub batchEntry : ℕ → Bytes → Entry
+batchEntry m batch = record { width = m; set = setOf (map (keyIn m) (batchKeys m batch)) }
+
+unfoldable pub pack : ℕ → Bytes → Bytes → Step
+pack m batch out = writes (packTests m batch) (batchEntry m batch ∷ []) (out ∷ [])
+
+-- ---- Union and difference (document 01: fold and strike)
+-- 13
+unfoldable pub joinTests : Entry → Entry → Tests
+joinTests e f = test (not (eqb (e .width) (f .width))) twoWidths ∷ []
+
+unfoldable pub union : Entry → Entry → Bytes → Step
+union e f out = writes (joinTests e f) (withSet e (either (e .set) (f .set)) ∷ []) (out ∷ [])
+
+unfoldable pub difference : Entry → Entry → Bytes → Step
+difference e f out = writes (joinTests e f) (withSet e (without (e .set) (f .set)) ∷ []) (out ∷ [])
+
+-- ---- Open, and the five questions
+unfoldable pub opens : Entry → Step
+opens e = answers [] (tells (e .width) (count e) (edgeCount e))
+
+-- document 01: present or not
+unfoldable pub contains : Entry → Bytes → Step
+contains e x = answers (keyTest e x ∷ []) (cond (e .set (keyIn (e .width) x)) isPresent isAbsent)
+
+-- document 01: lot, or absent
+unfoldable pub indexOf : Entry → Bytes → Step
+indexOf e x =
+    let k : Key = keyIn (e .width) x in
+    answers (keyTest e x ∷ []) (cond (e .set k) (indexIs (smaller k (keysOf e))) isAbsent)
+
+-- document 01: ticket of a lot; the key that has i smaller is the one at place i of the keys in order
+unfoldable pub keyAt : Entry → ℕ → Bytes → Step
+keyAt e i out = writesKey (belowTest i (count e) ∷ []) (e .width) (getD (keysOf e) i []) out
+
+-- document 01: rank of an offset
+unfoldable pub rankAt : Entry → ℕ → Step
+rankAt e o = answers (belowTest o (edgeCount e) ∷ []) (rankIs (rank (edgesOf e) o))
+
+-- document 01: seek; how many keys are smaller, or none if all are
+unfoldable pub lowerBound : Entry → Bytes → Step
+lowerBound e x =
+    let n : ℕ = smaller (keyIn (e .width) x) (keysOf e) in
+    answers (keyTest e x ∷ []) (cond (eqb n (count e)) isNone (indexIs n))
