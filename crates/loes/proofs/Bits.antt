@@ -1,4 +1,4 @@
--- bits in bytes
+-- Bits in bytes: what was packed is read, and bytes are what their bits pack to.
 use mathlib.Core.Path.{_≡_, refl, sym, ap, ap₂, _∙_}
 use Prim.Native.Nat.{ℕ, zero, suc, _+_, _-_, _*_, _/_, _%_, _^_, _≤_, _<_}
 use mathlib.Core.Bool.{Bool, true, false}

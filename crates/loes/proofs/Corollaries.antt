@@ -1,4 +1,4 @@
--- (a) and (b) in the specification's own words
+-- Counts of levels and prefixes, in the specification's own words.
 use mathlib.Core.Path.{_≡_, refl, sym, ap, ap₂, _∙_}
 use Prim.Native.Nat.{ℕ, zero, suc, _+_, _-_, _*_, _≤_, _<_}
 use mathlib.Core.Bool.{Bool, true, false, cond, false≢true}
@@ -18,26 +18,26 @@ ones-next d m s h = rw (level-tree d m s (omega arith), level-tree (suc d) m s h
 pub ones-last : (m : ℕ) (s : KeySet) → ones (recordBits (level m (suc m) s)) ≡ length (members (suc m) s)
 ones-last m s = rw (level-tree m (suc m) s (omega arith), ones-tree) (sym (length-members (suc m) s))
 
--- the found beginnings of d bits
-unfoldable pub beginnings : ℕ → ℕ → KeySet → List Key
-beginnings d m s = filter (found m s) (allKeys d)
+-- the found prefixes of d bits
+unfoldable pub prefixes : ℕ → ℕ → KeySet → List Key
+prefixes d m s = filter (found m s) (allKeys d)
 
 pub prefixes-step : (d m : ℕ) (s : KeySet)
-    → beginnings (suc d) (suc m) s ≡ map (λ (k : Key). false ∷ k) (beginnings d m (half false s)) ++ map (λ (k : Key). true ∷ k) (beginnings d m (half true s))
-unfolding beginnings allKeys
+    → prefixes (suc d) (suc m) s ≡ map (λ (k : Key). false ∷ k) (prefixes d m (half false s)) ++ map (λ (k : Key). true ∷ k) (prefixes d m (half true s))
+unfolding prefixes allKeys
 prefixes-step d m s = simp (filter-append, filter-map, found-false, found-true)
 
-pub length-prefixes : (d m : ℕ) (s : KeySet) → d ≤ m → length (beginnings d m s) ≡ prefixCount d m s
+pub length-prefixes : (d m : ℕ) (s : KeySet) → d ≤ m → length (prefixes d m s) ≡ prefixCount d m s
 unfolding prefixCount
-length-prefixes zero m s h = unfold beginnings allKeys filter in rw found-nil (length-one (inhabited m s))
+length-prefixes zero m s h = unfold prefixes allKeys filter in rw found-nil (length-one (inhabited m s))
 length-prefixes (suc d) zero s h = absurd (omega arith)
 length-prefixes (suc d) (suc m) s h =
     rw prefixes-step (simp (length-append, length-map)
     (ap₂ _+_ (length-prefixes d m (half false s) (omega arith)) (length-prefixes d m (half true s) (omega arith))))
 
-pub before-index : (p : Key) (m : ℕ) (s : KeySet) → length p ≤ m → smaller p (beginnings (length p) m s) ≡ prefixesBefore p m s
+pub before-index : (p : Key) (m : ℕ) (s : KeySet) → length p ≤ m → smaller p (prefixes (length p) m s) ≡ prefixesBefore p m s
 unfolding prefixesBefore smaller less
-before-index [] m s h = unfold beginnings allKeys filter in none-smaller (found m s [])
+before-index [] m s h = unfold prefixes allKeys filter in none-smaller (found m s [])
 before-index (b ∷ p) zero s h = absurd (omega arith)
 before-index (false ∷ p) (suc m) s h =
     rw (prefixes-step, filter-append) (simp (filter-map, filter-none, append-nil, length-map) (before-index p m (half false s) (omega arith)))

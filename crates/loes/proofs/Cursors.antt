@@ -1,4 +1,4 @@
--- The right places are before, after and one for each lot; a step goes from each to the next
+-- The right cursors are before, after and one for each member; advance goes from each to the next.
 use mathlib.Core.Path.{_≡_, refl, sym, ap, ap₂, _∙_}
 use Prim.Native.Nat.{ℕ, zero, suc, _+_, _-_, _*_, _%_, _≤_, _<_}
 use mathlib.Core.Bool.{Bool, true, false, _&&_, _||_, not, cond, false≢true, or-true}
@@ -21,7 +21,7 @@ use Rattle.loes.proofs.Tree.{bit-le}
 use Rattle.loes.proofs.Bits.{odd-bit}
 use Rattle.loes.proofs.Members.{smaller-at, inside-at}
 
--- the place at lot i, before and after
+-- the cursor at member i, before and after
 unfoldable pub cursorAt : Entry → ℕ → Cursor
 cursorAt e i = record { state = at; offsets = padded (pathOf e (getD (keysOf e) i [])) }
 
@@ -119,7 +119,7 @@ pub next-at : (e : Entry) (i : ℕ) → i < count e → nextIndex e (cursorAt e 
 unfolding nextIndex cursorAt keyOfPath pathOf
 next-at e i h = ap suc (ap (λ k. smaller k (keysOf e)) (ap (map odd) (take-path e i h) ∙ odd-offsets (edgesOf e) 0 (getD (keysOf e) i [])) ∙ smaller-at e i h)
 
--- a step with room: to the lot after, or to after
+-- advance with room: to the next member, or to after
 pub advance-on : (e : Entry) (p : Cursor) (out : Bytes) (j : ℕ) → isCursorOf e p ≡ true → nextIndex e p ≡ j → j < count e → keyBytes (e .width) ≤ length out
     → advance e p out ≡ record { answer = wroteKey (keyBytes (e .width)); buffer = front (packBits (getD (keysOf e) j [])) out; cursor = cursorAt e j }
 unfolding advance advanceTests goesTo hasNext nextKey cursorAt firstOf test staysOr

@@ -1,4 +1,4 @@
--- Only the tickets of width m count
+-- Only the keys of width m count.
 use mathlib.Core.Path.{_≡_, refl, sym, ap, ap₂, _∙_, fun-ext}
 use Prim.Native.Nat.{ℕ, zero, suc, _+_, _-_, _*_, _≤_, _<_}
 use mathlib.Core.Bool.{Bool, true, false}
@@ -9,7 +9,7 @@ use Rattle.loes.specs.Keys.{Key, KeySet, allKeys, filter, members, any, 
 use Rattle.loes.specs.Edges.{recordOf, found, level, recordBits, edges, edgesBefore}
 use Rattle.loes.proofs.Tree.{half, members-step}
 
--- two sets with the same tickets of width m
+-- two sets with the same keys of width m
 abbrev pub Agree : ℕ → KeySet → KeySet → Type 0
 Agree m s t = (k : Key) → length k ≡ m → s k ≡ t k
 

@@ -32,7 +32,7 @@ unfolding inhabited none half
 inhabited-none zero = refl
 inhabited-none (suc m) = rw (inhabited-none m)
 
--- ---- forests: lists of sets with tickets
+-- ---- Forests: lists of sets with members
 abbrev pub AllHas : ℕ → List KeySet → Type 0
 AllHas m [] = Unit {0}
 AllHas m (s ∷ f) = (inhabited m s ≡ true) × AllHas m f
@@ -146,7 +146,7 @@ built (l ∷ ls) n h =
       sameBit = λ d. elim d [ zero ↦ λ j. g .top | suc i ↦ λ j. g .deeper i ∙ u .sameBit i (omega arith) ];
     }
 
--- (c)
+-- well-formed levels from one record are those of a set with a member
 abbrev pub SetOf : List (List Record) → Type 0
 SetOf ls = (s : KeySet) × (inhabited (length ls) s ≡ true) × ((d : ℕ) → d < length ls → level d (length ls) s ≡ getD ls d [])
 

@@ -1,4 +1,4 @@
--- Demand 3: over every history the shelf does as the table does
+-- Demand 3: over every history the store does as the model does.
 use mathlib.Core.Path.{_≡_, refl, sym, ap, ap₂, _∙_, subst, fun-ext}
 use mathlib.Core.Logic.{_↔_}
 use Prim.Native.Nat.{ℕ, zero, suc, _+_, _-_, _*_, _/_, _%_, _≤_, _<_}
@@ -38,7 +38,7 @@ valid-at [] i h l = absurd (omega arith)
 valid-at (e ∷ t) zero h l = h .0
 valid-at (e ∷ t) (suc i) h l = valid-at t i (h .1) (omega arith)
 
--- ---- A call on the books of entries is the table's call on the entries
+-- ---- A call on the encodings of entries is the model's call on the entries
 pub reading-encode : (e : Entry) (bufs : List Bytes) (next : Entry → Outcome) → Valid e → reading (encode e) bufs next ≡ next e
 unfolding reading afterReading
 reading-encode e bufs next f = rw (read-encode e f)
@@ -81,7 +81,7 @@ call-agree t (askKeyAt i n out) h =
 call-agree t (askRank i o) h =
     one-agree t i (λ a. rankCall a o) (λ e. rankAt e o) h (λ e g. unfold rankCall in reading-encode e [] _ g)
 
--- ---- What a step adds is fine, and its books are the fronts of the buffers
+-- ---- What a step adds is valid, and its encodings are the fronts of the buffers
 abbrev pub Kept : Step → Type 0
 Kept s = AllValid (s .added) × (map encode (s .added) ≡ writtenWith (s .outcome .answer) (s .outcome .buffers))
 
@@ -149,7 +149,7 @@ key-kept : (ts : Tests) (t : ℕ) (k : Key) (out : Bytes) → Kept (writesKey ts
 unfolding writesKey
 key-kept ts t k out = tested-kept _ (out ∷ []) _ (λ z. unfold writtenWith in (tt, refl))
 
--- ---- The sets that pack, fold and strike name have tickets of their width only
+-- ---- The sets that pack, union and difference name have keys of their width only
 same-length : (j k : Key) → sameKey j k ≡ true → length j ≡ length k
 unfolding sameKey
 same-length [] [] h = refl
@@ -182,7 +182,7 @@ unfolding pack packTests
 pack-kept m batch out =
     writes-kept _ (batchEntry m batch ∷ []) (out ∷ []) (λ z. (pack-valid m batch (none-test (wrongWidth m) _ _ z .0), tt))
 
--- a set with no ticket that the first lacks, or one of the two
+-- what holds if either of two does
 or-else : (a b : Bool) (P : Type 0) → (a ≡ true → P) → (b ≡ true → P) → (a || b) ≡ true → P
 or-else true b P f g h = f refl
 or-else false b P f g h = g h
@@ -243,7 +243,7 @@ map-append : (t u : List Entry) → map encode (t ++ u) ≡ map encode t ++ map 
 map-append [] u = refl
 map-append (e ∷ t) u = ap (λ x. encode e ∷ x) (map-append t u)
 
--- one call: the same outcome, and the shelf is again the books of the table
+-- one call: the same outcome, and the store is again the encodings of the model
 store-step : (t : List Entry) (c : Call) → AllValid t → map encode t ++ writtenBy (storeCall (map encode t) c) ≡ map encode (t ++ addedBy (modelCall t c))
 store-step t c h = rw (call-agree t c h, kept-encodes (modelCall t c) (call-kept t c h)) (sym (map-append t (addedBy (modelCall t c))))
 
@@ -274,8 +274,8 @@ pub after-valid : (h : List Call) → AllValid (modelAfter h)
 unfolding modelAfter
 after-valid h = model-valid h [] tt
 
--- ---- Two books are equal exactly when their entries are the same
--- fine entries of the same width and the same tickets are one entry
+-- ---- Two encodings are equal exactly when their entries are the same
+-- valid entries of the same width and the same keys are one entry
 same-set : (e f : Entry) → Valid e → Valid f → SameEntry e f → (k : Key) → e .set k ≡ f .set k
 same-set e f g h z k = go (e .set k) (f .set k) refl refl
   where

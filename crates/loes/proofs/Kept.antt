@@ -1,4 +1,4 @@
--- A refused call leaves every lent buffer, and a walk's place, as they were
+-- A refused call leaves every lent buffer, and the cursor, as they were.
 use mathlib.Core.Path.{_≡_, refl, sym, ap, subst}
 use Prim.Native.Nat.{ℕ, zero, suc, _-_}
 use mathlib.Core.Bool.{Bool, true, false, cond}
@@ -63,7 +63,7 @@ pub record RefusalsKeep : Type 0 where
   pub pack : (m : ℕ) (batch out : Bytes) → Keeps (packCall m batch out) (out ∷ [])
   pub union : (a b out : Bytes) → Keeps (unionCall a b out) (out ∷ [])
   pub difference : (a b out : Bytes) → Keeps (differenceCall a b out) (out ∷ [])
-  pub ticket : (a : Bytes) (i : ℕ) (out : Bytes) → Keeps (keyAtCall a i out) (out ∷ [])
+  pub keyAt : (a : Bytes) (i : ℕ) (out : Bytes) → Keeps (keyAtCall a i out) (out ∷ [])
   pub advance : (a : Bytes) (p : Cursor) (out : Bytes) (k : ℕ) → advanceCall a p out .answer ≡ refused k → (advanceCall a p out .buffer ≡ out) × (advanceCall a p out .cursor ≡ p)
 
 if-keeps : (o : Option ℕ) (p : Cursor) (out : Bytes) (done : Advanced) → Accepts (done .answer) → (k : ℕ) → staysOr o p out done .answer ≡ refused k
@@ -84,7 +84,7 @@ refusals-keep =
       pack = λ m batch out. writes-keeps _ _ (out ∷ []);
       union = λ a b out. reading-keeps a (out ∷ []) _ (λ e. reading-keeps b (out ∷ []) _ (λ f. writes-keeps _ _ (out ∷ [])));
       difference = λ a b out. reading-keeps a (out ∷ []) _ (λ e. reading-keeps b (out ∷ []) _ (λ f. writes-keeps _ _ (out ∷ [])));
-      ticket = λ a i out. reading-keeps a (out ∷ []) _ (λ e. key-keeps _ _ _ out);
+      keyAt = λ a i out. reading-keeps a (out ∷ []) _ (λ e. key-keeps _ _ _ out);
       advance = λ a p out. given-keeps p out (read a);
     }
   where

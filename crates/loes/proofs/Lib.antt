@@ -6,6 +6,7 @@ pub mod Navigation
 pub mod Forest
 pub mod Bytes
 pub mod Bits
+pub mod Ends
 pub mod Numbers
 pub mod Extensional
 pub mod WellFormed
@@ -13,6 +14,7 @@ pub mod Paths
 pub mod Reading
 pub mod Seven
 pub mod Members
+pub mod Writes
 pub mod Histories
 pub mod Cursors
 pub mod Kept

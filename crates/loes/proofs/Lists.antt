@@ -1,4 +1,4 @@
--- keep, any, map over ++ and over one another
+-- filter, any, map and ones over ++ and over one another.
 use mathlib.Core.Path.{_≡_, refl, sym, ap, _∙_}
 use Prim.Native.Nat.{ℕ, zero, suc, _+_, _*_, _≤_, _<_}
 use mathlib.Core.Bool.{Bool, true, false, _&&_, _||_, cond, or-assoc}

@@ -1,4 +1,4 @@
--- The ticket at place i of the tickets in order: one of the set, and i are smaller
+-- The key at place i of the members in order: one of the set, and i are smaller.
 use mathlib.Core.Path.{_≡_, refl, sym, ap, ap₂, _∙_}
 use Prim.Native.Nat.{ℕ, zero, suc, _+_, _-_, _*_, _≤_, _<_}
 use mathlib.Core.Bool.{Bool, true, false, cond}
@@ -73,7 +73,7 @@ inside-at e i h =
     let r = at-place (e .width) (e .set) i h in
     (rw (r .here) (r .size), rw (r .here) (r .inside))
 
--- a ticket of the set takes t bytes
+-- a member takes t bytes
 pub key-bytes : (e : Entry) (i : ℕ) → i < count e → length (packBits (getD (keysOf e) i [])) ≡ keyBytes (e .width)
 unfolding keyBytes
 key-bytes e i h = length-packed (getD (keysOf e) i []) ∙ ap (started 8) (inside-at e i h .0)

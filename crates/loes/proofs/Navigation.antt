@@ -1,4 +1,4 @@
--- Following edges over the whole sequence
+-- Following edges over the whole sequence: presence, and the index of a key.
 use mathlib.Core.Path.{_≡_, refl, sym, ap, ap₂, _∙_}
 use Prim.Native.Nat.{ℕ, zero, suc, _+_, _-_, _*_, _≤_, _<_}
 use mathlib.Core.Bool.{Bool, true, false, _&&_, _||_, cond, false≢true}
@@ -46,7 +46,7 @@ edges-at d m s h =
     let e : (rest : List Bool) × (edgesBefore m m s ≡ edgesBefore (suc d) m s ++ rest) = edges-from (suc d) m m s h in
     (e .0, e .1 ∙ append-assoc (edgesBefore d m s) (recordBits (level d m s)) (e .0) ∙ rw (level-tree d m s h))
 
--- the record of the beginning p
+-- the record number of a prefix p
 unfoldable pub recordIndex : Key → ℕ → KeySet → ℕ
 recordIndex p m s = recordsBefore (length p) m s + prefixesBefore p m s
 
@@ -74,7 +74,7 @@ module _ (p : Key) (b : Bool) (m : ℕ) (s : KeySet) (l : length p < m) where
       rw (length-snoc p b)
       (omega (arith, ones-edgesBefore (length p) m s (omega arith), count-one m s (prefix-inhabited (p ++ b ∷ []) m s h))))
 
--- from the record of a found beginning p, the edges of k are all set exactly if the set has p and k
+-- from the record of a found prefix p, the edges of k are all set exactly if the set has p and k
 pub follow : (p k : Key) (m : ℕ) (s : KeySet) → length (p ++ k) ≡ m → hasPrefix p m s ≡ true
     → allSet (edges m s) (edgeOffsets (edges m s) (recordIndex p m s) k) ≡ s (p ++ k)
 unfolding allSet edgeOffsets
@@ -109,7 +109,7 @@ unfolding allSet edgeOffsets
 no-edges [] l = absurd (omega arith)
 no-edges (b ∷ k) l = refl
 
--- a ticket is present exactly if the set has it
+-- a key is present exactly if the set has it
 pub present-is : (k : Key) (m : ℕ) (s : KeySet) → length k ≡ m → 0 < m → present (edges m s) k ≡ s k
 unfolding present hasPrefix
 present-is k m s l pos = go (inhabited m s) refl
@@ -128,7 +128,7 @@ last-rank p b (c ∷ k) m s l f =
     rw (nav-rank p b m s anyShort (prefix-start (p ++ b ∷ []) (c ∷ k) m s (rw append-assoc f)), ← append-assoc p (b ∷ []) (c ∷ k))
     (last-rank (p ++ b ∷ []) c k m s (rw append-assoc l) (rw append-assoc f))
 
--- the lot of a ticket: how many tickets are smaller
+-- the index that the edges give: how many members are smaller
 pub index-is : (k : Key) (m : ℕ) (s : KeySet) → length k ≡ suc m → s k ≡ true → edgeIndex (suc m) s k ≡ smaller k (members (suc m) s)
 unfolding edgeIndex recordIndex
 index-is [] m s l e = absurd (omega arith)

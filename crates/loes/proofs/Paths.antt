@@ -1,4 +1,4 @@
--- Set bits are told apart by their rank; paths
+-- Set bits are told apart by their rank; offsets that lead from record to record.
 use mathlib.Core.Path.{_≡_, refl, sym, ap, ap₂, _∙_}
 use Prim.Native.Nat.{ℕ, zero, suc, _+_, _-_, _*_, _/_, _%_, _≤_, _<_}
 use mathlib.Core.Bool.{Bool, true, false, false≢true}

@@ -52,7 +52,7 @@ subBlock-small : (l : List Bool) (j : ℕ) → subBlockOnes l j < 65536
 unfolding subBlockOnes
 subBlock-small l j = omega (arith, before-le (drop (65536 * (j / 128)) l) (512 * (j % 128)) .0)
 
-level-le : (e : Entry) (d : ℕ) → d < e .width → levelEnd e d ≤ edgeCount e
+pub level-le : (e : Entry) (d : ℕ) → d < e .width → levelEnd e d ≤ edgeCount e
 unfolding levelEnd edgeCount edgesOf edges
 level-le e d h =
     let r = edges-from (suc d) (e .width) (e .width) (e .set) h in

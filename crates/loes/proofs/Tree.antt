@@ -1,4 +1,4 @@
--- The levels by recursion on the ticket's bits, and that they are the levels of the specification
+-- Levels by recursion on the key's bits, and that they are the levels of the specification.
 use mathlib.Core.Path.{_≡_, refl, sym, ap, ap₂, _∙_, fun-ext}
 use Prim.Native.Nat.{ℕ, zero, suc, _+_, _*_, _≤_, _<_}
 use mathlib.Core.Bool.{Bool, true, false, _&&_, _||_, cond, or-false, or-true, false≢true, true≢false}
@@ -11,11 +11,11 @@ use Rattle.loes.specs.Keys.{Key, KeySet, allKeys, filter, any, members, 
 use Rattle.loes.specs.Edges.{recordOf, found, level, Record, recordBits, ones}
 use Rattle.loes.proofs.Lists.{filter-append, filter-map, any-append, any-map, any-none, ones-append, bits-append, length-bits, filter-none, filter-all, getD-map-in}
 
--- the tickets of a set that begin with b, without that bit
+-- the keys of a set that begin with b, without that bit
 unfoldable pub half : Bool → KeySet → KeySet
 half b s k = s (b ∷ k)
 
--- the set has a ticket
+-- the set has a member of m bits
 unfoldable pub inhabited : ℕ → KeySet → Bool
 inhabited zero s = s []
 inhabited (suc m) s = inhabited m (half false s) || inhabited m (half true s)
@@ -29,7 +29,7 @@ treeLevel zero (suc m) s = rootRecord (inhabited m (half false s)) (inhabited m 
 treeLevel (suc d) zero s = []
 treeLevel (suc d) (suc m) s = treeLevel d m (half false s) ++ treeLevel d m (half true s)
 
--- how many beginnings of d bits are found
+-- how many prefixes of d bits are found
 unfoldable pub prefixCount : ℕ → ℕ → KeySet → ℕ
 prefixCount zero m s = bit (inhabited m s)
 prefixCount (suc d) zero s = 0
@@ -94,7 +94,7 @@ length-root false true = refl
 length-root true false = refl
 length-root true true = refl
 
--- set bits of level d: the beginnings of d + 1 bits
+-- set bits of level d: the prefixes of d + 1 bits
 pub ones-tree : (d m : ℕ) (s : KeySet) → ones (recordBits (treeLevel d m s)) ≡ prefixCount (suc d) m s
 unfolding treeLevel prefixCount
 ones-tree zero zero s = unfold ones recordBits in refl
@@ -102,7 +102,7 @@ ones-tree zero (suc m) s = ones-root (inhabited m (half false s)) (inhabited m (
 ones-tree (suc d) zero s = unfold ones recordBits in refl
 ones-tree (suc d) (suc m) s = rw (bits-append (treeLevel d m (half false s)) (treeLevel d m (half true s)), ones-append) (ap₂ _+_ (ones-tree d m (half false s)) (ones-tree d m (half true s)))
 
--- records of level d: the beginnings of d bits
+-- records of level d: the prefixes of d bits
 pub length-tree : (d m : ℕ) (s : KeySet) → d < m → length (treeLevel d m s) ≡ prefixCount d m s
 unfolding treeLevel prefixCount inhabited
 length-tree d zero s h = absurd (omega arith)
@@ -119,8 +119,8 @@ length-members zero s = length-one (s [])
 length-members (suc m) s =
     rw members-step (simp (length-append, length-map) (ap₂ _+_ (length-members m (half false s)) (length-members m (half true s))))
 
--- ---- beginnings
--- some ticket begins with p
+-- ---- Prefixes
+-- some member begins with p
 unfoldable pub hasPrefix : Key → ℕ → KeySet → Bool
 hasPrefix [] m s = inhabited m s
 hasPrefix (b ∷ p) zero s = false
@@ -138,7 +138,7 @@ found-prefix (b ∷ p) zero s = no-key (s []) b p
 found-prefix (false ∷ p) (suc m) s = found-false m s p ∙ found-prefix p m (half false s)
 found-prefix (true ∷ p) (suc m) s = found-true m s p ∙ found-prefix p m (half true s)
 
--- how many found beginnings of the same length come before p
+-- how many found prefixes of the same length come before p
 unfoldable pub prefixesBefore : Key → ℕ → KeySet → ℕ
 prefixesBefore [] m s = 0
 prefixesBefore (b ∷ p) zero s = 0
@@ -203,7 +203,7 @@ prefix-shorter [] false (suc m) s h = rw h
 prefix-shorter [] true (suc m) s h = rw (h, or-true)
 prefix-shorter (a ∷ p) b (suc m) s h = prefix-shorter p b m (half a s) h
 
--- the set bits of level d up to p's: the beginnings one longer, up to its own
+-- the set bits of level d up to p's: the prefixes one longer, up to its own
 pub edge-rank : (p : Key) (b : Bool) (m : ℕ) (s : KeySet) → length p < m → hasPrefix (p ++ b ∷ []) m s ≡ true
     → ones (take (suc (2 * prefixesBefore p m s + bit b)) (recordBits (treeLevel (length p) m s))) ≡ suc (prefixesBefore (p ++ b ∷ []) m s)
 unfolding hasPrefix prefixesBefore treeLevel inhabited
@@ -235,7 +235,7 @@ pub count-one : (m : ℕ) (s : KeySet) → inhabited m s ≡ true → prefixCoun
 unfolding prefixCount
 count-one m s h = rw h
 
--- a whole ticket is found if the set has it
+-- a whole key is found if the set has it
 pub prefix-whole : (k : Key) (m : ℕ) (s : KeySet) → length k ≡ m → hasPrefix k m s ≡ s k
 unfolding hasPrefix inhabited half
 prefix-whole [] zero s h = refl
@@ -243,7 +243,7 @@ prefix-whole [] (suc m) s h = absurd (omega arith)
 prefix-whole (b ∷ k) zero s h = absurd (omega arith)
 prefix-whole (b ∷ k) (suc m) s h = prefix-whole k m (half b s) (omega arith)
 
--- a ticket of the set: each of its beginnings is found
+-- a member: each of its prefixes is found
 pub prefix-start : (p k : Key) (m : ℕ) (s : KeySet) → hasPrefix (p ++ k) m s ≡ true → hasPrefix p m s ≡ true
 unfolding hasPrefix
 prefix-start [] k m s f = prefix-inhabited k m s f
@@ -271,7 +271,7 @@ tree-empty (suc d) (suc m) s h =
     let z : (inhabited m (half false s) ≡ false) × (inhabited m (half true s) ≡ false) = or-none (inhabited m (half false s)) (inhabited m (half true s)) h in
     rw (tree-empty d m (half false s) (z .0), tree-empty d m (half true s) (z .1))
 
--- the smaller tickets are the beginnings before it
+-- the smaller members are the whole keys found before it
 pub none-smaller : (b : Bool) → length (filter (λ (j : Key). less j []) (cond b ([] ∷ []) [])) ≡ 0
 unfolding filter less
 none-smaller true = refl
@@ -293,7 +293,7 @@ index-lt k m s l e =
     let f : prefixesBefore k m s < prefixCount (length k) m s = before-lt k m s (prefix-whole k m s l ∙ e) in
     rw (length-members, ← l) (rw (← l) at f)
 
--- the ticket with so many before it
+-- the member with so many before it
 pub members-at : (k : Key) (m : ℕ) (s : KeySet) → length k ≡ m → s k ≡ true → getD (members m s) (prefixesBefore k m s) [] ≡ k
 unfolding prefixesBefore half
 members-at [] zero s h e = unfold members allKeys filter in rw e

@@ -73,7 +73,7 @@ edgesBefore-levels ls s h zero l = refl
 edgesBefore-levels ls s h (suc d) l =
     rw (edgesBefore-levels ls s h d (omega arith), h d l, take-suc ls d [], map-append, join-snoc)
 
--- (e) a well-formed sequence is the edge sequence of a set with a ticket
+-- a well-formed sequence is the edge sequence of a set with a member
 pub well-set : (m : ℕ) (e : List Bool) → WellFormed m 1 e → (s : KeySet) × (inhabited m s ≡ true) × (edges m s ≡ e)
 unfolding edges
 well-set m e w =
