@@ -1,22 +1,21 @@
 -- The right cursors are before, after and one for each member; advance goes from each to the next.
 use mathlib.Core.Path.{_≡_, refl, sym, ap, ap₂, _∙_}
-use Prim.Native.Nat.{ℕ, zero, suc, _+_, _-_, _*_, _%_, _≤_, _<_}
-use mathlib.Core.Bool.{Bool, true, false, _&&_, _||_, not, cond, false≢true, or-true}
+use Prim.Native.Nat.{ℕ, zero, suc, _+_, _-_, _*_, _≤_, _<_}
+use mathlib.Core.Bool.{Bool, true, false, _||_, not, false≢true, or-true}
 use mathlib.Core.List.{List, [], _∷_, _++_, map}
-use mathlib.Core.Option.{Option, none, some}
 use native.Mathlib.Omega.{arith}
-use lib.ListN.{length, take, drop, getD, replicate, length-append, length-replicate, length-take, length-drop, take-append-drop}
-use lib.Seq.{take-at, drop-at, length-take-le}
-use lib.Dec.{eqb, ltb}
+use lib.ListN.{length, take, drop, getD, replicate, length-drop, take-append-drop}
+use lib.Seq.{take-at, drop-at}
+use lib.Dec.{eqb}
 use Rattle.loes.specs.Limits.{maxWidth}
 use Rattle.loes.specs.Bytes.{odd, bit, packBits, sameNumbers, Bytes, front}
 use Rattle.loes.specs.Keys.{Key, any, smaller}
 use Rattle.loes.specs.Edges.{edgeOffsets, rank}
 use Rattle.loes.specs.Entry.{Entry, keyBytes, keysOf, count, edgesOf}
-use Rattle.loes.specs.Refusals.{test, firstOf, badCursor, shortBuffer}
-use Rattle.loes.specs.Model.{refused, wroteKey}
-use Rattle.loes.specs.Cursor.{advanceTests, State, before, at, after, Cursor, allZero, padded, pathOf, isCursorOf, keyOfPath, nextIndex, Advanced, staysOr, hasNext, nextKey, goesTo, goesToAfter, advance}
-use Rattle.loes.proofs.Tests.{lt-yes, lt-no, both, neither, not-false, same-self, same-is, yes-eq}
+use Rattle.loes.specs.Refusals.{test, firstOf}
+use Rattle.loes.specs.Model.{wroteKey}
+use Rattle.loes.specs.Cursor.{advanceTests, State, before, at, after, Cursor, allZero, padded, pathOf, isCursorOf, keyOfPath, nextIndex, staysOr, hasNext, nextKey, goesTo, goesToAfter, advance}
+use Rattle.loes.proofs.Tests.{lt-yes, lt-no, both, same-self, same-is, yes-eq}
 use Rattle.loes.proofs.Tree.{bit-le}
 use Rattle.loes.proofs.Bits.{odd-bit}
 use Rattle.loes.proofs.Members.{smaller-at, inside-at}

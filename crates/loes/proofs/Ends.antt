@@ -1,24 +1,24 @@
 -- Ends of levels: what they are in the edge sequence of a set, and that they make a sequence one
-use mathlib.Core.Path.{_≡_, refl, sym, ap, ap₂, _∙_, subst}
-use Prim.Native.Nat.{ℕ, zero, suc, _+_, _-_, _*_, _/_, _%_, _≤_, _<_}
-use mathlib.Core.Bool.{Bool, true, false, _&&_, _||_, cond, false≢true}
-use mathlib.Core.List.{List, [], _∷_, _++_, append-nil}
+use mathlib.Core.Path.{_≡_, refl, sym, ap, _∙_}
+use Prim.Native.Nat.{ℕ, zero, suc, _+_, _-_, _*_, _/_, _≤_, _<_}
+use mathlib.Core.Bool.{Bool, true, false}
+use mathlib.Core.List.{List, [], _∷_, _++_}
 use native.Mathlib.Omega.{arith}
-use native.Mathlib.Decide.{decLe, le-ind}
-use lib.ListN.{length, take, drop, getD, length-append, length-drop, drop-of-length-le, take-append-drop}
-use lib.Seq.{take-at, take-add, drop-drop, take-append-le, length-take-le, take-all}
+use native.Mathlib.Decide.{le-ind}
+use lib.ListN.{length, take, drop, length-append, length-drop, drop-of-length-le, take-append-drop}
+use lib.Seq.{take-at, take-add, drop-drop, length-take-le}
 use lib.Dec.{ltb}
 use Rattle.loes.specs.Bytes.{bit}
 use Rattle.loes.specs.Keys.{Key, KeySet, members}
-use Rattle.loes.specs.Edges.{Record, recordBits, ones, onesBefore, edges, edgesBefore, level, present}
+use Rattle.loes.specs.Edges.{Record, recordBits, ones, onesBefore, edges, edgesBefore, present}
 use Rattle.loes.specs.Entry.{ofWidth}
-use Rattle.loes.proofs.Lists.{ones-append, bits-append, length-bits}
+use Rattle.loes.proofs.Lists.{ones-append, bits-append}
 use Rattle.loes.proofs.Tests.{lt-yes, eq-yes}
-use Rattle.loes.proofs.Tree.{inhabited, treeLevel, prefixCount, tree-empty, level-tree, length-tree, ones-tree, count-one, length-members}
+use Rattle.loes.proofs.Tree.{inhabited, treeLevel, prefixCount, tree-empty, level-tree, length-tree, count-one, length-members}
 use Rattle.loes.proofs.Navigation.{recordsBefore, length-edgesBefore, ones-edgesBefore, edges-from, edges-empty, no-edges}
 use Rattle.loes.proofs.Extensional.{edges-ext}
 use Rattle.loes.proofs.Forest.{NoEmpty, none as noKeys, inhabited-none}
-use Rattle.loes.proofs.WellFormed.{recordsIn, records-bits, bits-records, WellFormed, well-present, no-empty-append, no-empty-tree}
+use Rattle.loes.proofs.WellFormed.{recordsIn, records-bits, WellFormed, well-present, no-empty-append, no-empty-tree}
 
 -- the records of level 0 of a sequence of b bits
 unfoldable pub roots : ℕ → ℕ

@@ -1,12 +1,11 @@
 -- Only the keys of width m count.
-use mathlib.Core.Path.{_≡_, refl, sym, ap, ap₂, _∙_, fun-ext}
-use Prim.Native.Nat.{ℕ, zero, suc, _+_, _-_, _*_, _≤_, _<_}
-use mathlib.Core.Bool.{Bool, true, false}
-use mathlib.Core.List.{List, [], _∷_, _++_}
-use native.Mathlib.Omega.{arith}
+use mathlib.Core.Path.{_≡_, refl, ap, fun-ext}
+use Prim.Native.Nat.{ℕ, zero, suc, _-_}
+use mathlib.Core.Bool.{true, false}
+use mathlib.Core.List.{List, [], _∷_}
 use lib.ListN.{length}
 use Rattle.loes.specs.Keys.{Key, KeySet, allKeys, filter, members, any, isPrefix}
-use Rattle.loes.specs.Edges.{recordOf, found, level, recordBits, edges, edgesBefore}
+use Rattle.loes.specs.Edges.{recordOf, found, level, edges, edgesBefore}
 use Rattle.loes.proofs.Tree.{half, members-step}
 
 -- two sets with the same keys of width m

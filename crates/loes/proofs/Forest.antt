@@ -1,14 +1,14 @@
 -- Completeness: well-formed levels are the levels of a set
-use mathlib.Core.Path.{_≡_, refl, sym, ap, ap₂, _∙_}
-use Prim.Native.Nat.{ℕ, zero, suc, _+_, _-_, _*_, _≤_, _<_}
-use mathlib.Core.Bool.{Bool, true, false, _&&_, _||_, cond, false≢true, or-true}
+use mathlib.Core.Path.{_≡_, refl, sym, ap, _∙_}
+use Prim.Native.Nat.{ℕ, zero, suc, _+_, _-_, _<_}
+use mathlib.Core.Bool.{Bool, true, false, _||_, cond, false≢true, or-true}
 use mathlib.Core.List.{List, [], _∷_, _++_, append-assoc, append-nil}
 use native.Mathlib.Omega.{arith}
-use lib.ListN.{length, take, drop, getD, length-append, replicate, length-replicate}
+use lib.ListN.{length, drop, getD, replicate, length-replicate}
 use Rattle.loes.specs.Bytes.{bit}
 use Rattle.loes.specs.Keys.{Key, KeySet}
-use Rattle.loes.specs.Edges.{Record, recordBits, ones, edges, edgesBefore, level}
-use Rattle.loes.proofs.Tree.{half, inhabited, rootRecord, treeLevel, prefixCount, tree-empty, level-tree}
+use Rattle.loes.specs.Edges.{Record, recordBits, ones, level}
+use Rattle.loes.proofs.Tree.{half, inhabited, rootRecord, treeLevel, tree-empty, level-tree}
 
 -- what levels must be: the first of n records, none of them clear, and each next one of as many records as this has set bits
 abbrev pub NoEmpty : List Record → Type 0

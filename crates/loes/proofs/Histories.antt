@@ -1,26 +1,26 @@
 -- Demand 3: over every history the store does as the model does.
-use mathlib.Core.Path.{_≡_, refl, sym, ap, ap₂, _∙_, subst, fun-ext}
+use mathlib.Core.Path.{_≡_, refl, sym, ap, ap₂, _∙_, fun-ext}
 use mathlib.Core.Logic.{_↔_}
-use Prim.Native.Nat.{ℕ, zero, suc, _+_, _-_, _*_, _/_, _%_, _≤_, _<_}
-use mathlib.Core.Bool.{Bool, true, false, _&&_, _||_, not, cond, false≢true}
+use Prim.Native.Nat.{ℕ, zero, suc, _+_, _-_, _≤_, _<_}
+use mathlib.Core.Bool.{Bool, true, false, _||_, not, false≢true}
 use mathlib.Core.List.{List, [], _∷_, _++_, map}
 use mathlib.Core.Option.{Option, none, some}
 use native.Mathlib.Omega.{arith}
-use lib.ListN.{length, take, drop, getD, length-append, length-map}
-use lib.Seq.{take-at, take-append-seam}
+use lib.ListN.{length, drop, getD, length-map}
+use lib.Seq.{take-append-seam}
 use lib.Dec.{eqb, ltb}
 use Rattle.loes.specs.Limits.{maxWidth, maxEdges}
-use Rattle.loes.specs.Bytes.{bitsIn, bitAt, tabulate, Bytes, front}
+use Rattle.loes.specs.Bytes.{bitsIn, bitAt, Bytes, front}
 use Rattle.loes.specs.Keys.{Key, KeySet, any, sameKey, sameBit, setOf, either, without}
-use Rattle.loes.specs.Entry.{Entry, SameEntry, withSet, edgeCount, edgesOf, wrongWidth, tooManyEdges, Valid}
+use Rattle.loes.specs.Entry.{Entry, SameEntry, withSet, edgeCount, wrongWidth, tooManyEdges, Valid}
 use Rattle.loes.specs.Encode.{encode}
-use Rattle.loes.specs.Refusals.{Tests, test, firstOf}
-use Rattle.loes.specs.Read.{Reading, opened, read}
-use Rattle.loes.specs.Model.{packTests, Answer, refused, wrote, wroteKey, indexIs, rankIs, isPresent, isAbsent, isNone, tells, Outcome, Step, refusal, refusedOr, tested, fronts, anyShort, writes, writesKey, answers, keyIn, batchKeys, risingTests, batchEntry, joinTests, pack, union, difference, contains, indexOf, keyAt, rankAt, lowerBound}
+use Rattle.loes.specs.Refusals.{Tests, firstOf}
+use Rattle.loes.specs.Read.{read}
+use Rattle.loes.specs.Model.{packTests, Answer, refused, wrote, wroteKey, indexIs, rankIs, isPresent, isAbsent, isNone, tells, Outcome, Step, refusal, refusedOr, tested, fronts, anyShort, writes, writesKey, answers, keyIn, batchKeys, batchEntry, joinTests, pack, union, difference, contains, indexOf, keyAt, rankAt, lowerBound}
 use Rattle.loes.specs.Calls.{afterReading, reading, packCall, unionCall, differenceCall, containsCall, indexOfCall, keyAtCall, rankCall, lowerBoundCall}
 use Rattle.loes.specs.History.{Call, doPack, doUnion, doDifference, askContains, askIndexOf, askLowerBound, askKeyAt, askRank, atPlace, modelCall, addedBy, outcomeOf, modelFrom, modelSays, storeCall, cut, writtenWith, writtenBy, storeFrom, storeSays, modelAfter, storeAfter, noEntry, HistoriesAgree}
-use Rattle.loes.proofs.Tests.{lt-no, no-lt, yes-eq, neither, not-false, both, none-append, none-test}
-use Rattle.loes.proofs.Lists.{any-map, getD-map-in}
+use Rattle.loes.proofs.Tests.{no-lt, yes-eq, neither, not-false, both, none-append, none-test}
+use Rattle.loes.proofs.Lists.{getD-map-in}
 use Rattle.loes.proofs.Bytes.{length-tabulate}
 use Rattle.loes.proofs.Reading.{read-encode, opened-inj}
 

@@ -1,16 +1,15 @@
 -- A refused call leaves every lent buffer, and the cursor, as they were.
-use mathlib.Core.Path.{_≡_, refl, sym, ap, subst}
-use Prim.Native.Nat.{ℕ, zero, suc, _-_}
+use mathlib.Core.Path.{_≡_, refl, subst}
+use Prim.Native.Nat.{ℕ, _-_}
 use mathlib.Core.Bool.{Bool, true, false, cond}
 use mathlib.Core.List.{List, [], _∷_}
 use mathlib.Core.Option.{Option, none, some}
 use Rattle.loes.specs.Bytes.{Bytes}
 use Rattle.loes.specs.Entry.{Entry}
-use Rattle.loes.specs.Encode.{encode}
 use Rattle.loes.specs.Refusals.{Tests, firstOf}
 use Rattle.loes.specs.Read.{Reading, rejected, opened, read}
-use Rattle.loes.specs.Model.{Answer, refused, wrote, wroteKey, indexIs, rankIs, isPresent, isAbsent, isNone, tells, Outcome, Step, refusal, refusedOr, tested, writes, writesKey, answers, pack, union, difference, contains, indexOf, keyAt, rankAt, lowerBound, opens}
-use Rattle.loes.specs.Calls.{afterReading, reading, packCall, unionCall, differenceCall, containsCall, indexOfCall, keyAtCall, rankCall, lowerBoundCall, openCall}
+use Rattle.loes.specs.Model.{Answer, refused, wrote, wroteKey, indexIs, rankIs, isPresent, isAbsent, isNone, tells, Outcome, Step, refusal, refusedOr, tested, writes, writesKey, answers, pack, union, difference, keyAt}
+use Rattle.loes.specs.Calls.{afterReading, reading, packCall, unionCall, differenceCall, keyAtCall}
 use Rattle.loes.specs.Cursor.{Cursor, Advanced, staysOr, stays, hasNext, nextKey, goesTo, goesToAfter, advance, advanceReading, advanceCall}
 
 abbrev pub Keeps : Outcome → List Bytes → Type 0

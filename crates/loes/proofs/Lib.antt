@@ -10,7 +10,6 @@ pub mod Ends
 pub mod Numbers
 pub mod Extensional
 pub mod WellFormed
-pub mod Paths
 pub mod Reading
 pub mod Seven
 pub mod Members
@@ -18,5 +17,6 @@ pub mod Writes
 pub mod Histories
 pub mod Cursors
 pub mod Kept
+pub mod Lent
 pub mod Corollaries
 pub mod Examples

@@ -1,11 +1,10 @@
 -- filter, any, map and ones over ++ and over one another.
-use mathlib.Core.Path.{_≡_, refl, sym, ap, _∙_}
-use Prim.Native.Nat.{ℕ, zero, suc, _+_, _*_, _≤_, _<_}
-use mathlib.Core.Bool.{Bool, true, false, _&&_, _||_, cond, or-assoc}
+use mathlib.Core.Path.{_≡_, refl, sym}
+use Prim.Native.Nat.{ℕ, zero, suc, _+_, _*_, _<_}
+use mathlib.Core.Bool.{Bool, true, false, _||_, cond, or-assoc}
 use mathlib.Core.List.{List, [], _∷_, _++_, map}
 use native.Mathlib.Omega.{arith}
-use lib.ListN.{length, getD, length-append}
-use Rattle.loes.specs.Bytes.{bit}
+use lib.ListN.{length, getD}
 use Rattle.loes.specs.Keys.{filter, any}
 use Rattle.loes.specs.Edges.{Record, recordBits, ones}
 

@@ -1,8 +1,8 @@
 -- The key at place i of the members in order: one of the set, and i are smaller.
-use mathlib.Core.Path.{_≡_, refl, sym, ap, ap₂, _∙_}
-use Prim.Native.Nat.{ℕ, zero, suc, _+_, _-_, _*_, _≤_, _<_}
+use mathlib.Core.Path.{_≡_, refl, sym, ap, _∙_}
+use Prim.Native.Nat.{ℕ, zero, suc, _+_, _-_, _<_}
 use mathlib.Core.Bool.{Bool, true, false, cond}
-use mathlib.Core.List.{List, [], _∷_, _++_, map}
+use mathlib.Core.List.{[], _∷_, map}
 use native.Mathlib.Omega.{arith}
 use native.Mathlib.Decide.{decLe}
 use lib.ListN.{length, getD, length-append, length-map, List·getD-append}
@@ -12,7 +12,7 @@ use Rattle.loes.specs.Keys.{Key, KeySet, allKeys, filter, members, small
 use Rattle.loes.specs.Entry.{Entry, keyBytes, keysOf, count}
 use Rattle.loes.proofs.Bytes.{length-packed}
 use Rattle.loes.proofs.Lists.{getD-map-in}
-use Rattle.loes.proofs.Tree.{half, prefixCount, members-step, length-members, prefixesBefore, before-smaller, members-at}
+use Rattle.loes.proofs.Tree.{half, members-step, length-members, prefixesBefore, before-smaller}
 
 pub record At (m : ℕ) (s : KeySet) (i : ℕ) : Type 0 where
   pub key : Key

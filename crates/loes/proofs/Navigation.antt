@@ -1,17 +1,17 @@
 -- Following edges over the whole sequence: presence, and the index of a key.
-use mathlib.Core.Path.{_≡_, refl, sym, ap, ap₂, _∙_}
+use mathlib.Core.Path.{_≡_, refl, sym, ap, _∙_}
 use Prim.Native.Nat.{ℕ, zero, suc, _+_, _-_, _*_, _≤_, _<_}
-use mathlib.Core.Bool.{Bool, true, false, _&&_, _||_, cond, false≢true}
+use mathlib.Core.Bool.{Bool, true, false, _&&_}
 use mathlib.Core.List.{List, [], _∷_, _++_, append-assoc, append-nil}
 use native.Mathlib.Omega.{arith}
 use native.Mathlib.Decide.{le-ind}
-use lib.ListN.{length, take, getD, length-append, List·getD-append}
+use lib.ListN.{length, getD, length-append, List·getD-append}
 use lib.Seq.{take-append-le, take-append-add, getD-append-add}
 use Rattle.loes.specs.Bytes.{bit}
 use Rattle.loes.specs.Keys.{Key, KeySet, members, smaller}
-use Rattle.loes.specs.Edges.{level, Record, recordBits, ones, edges, edgesBefore, rank, onesBefore, edgeOffsets, allSet, present, lastOf, edgeIndex}
-use Rattle.loes.proofs.Lists.{ones-append, bits-append, length-bits}
-use Rattle.loes.proofs.Tree.{half, inhabited, treeLevel, prefixCount, level-tree, ones-tree, length-tree, hasPrefix, prefixesBefore, before-lt, bit-le, edge-bit, edge-rank, length-snoc, prefix-shorter, prefix-inhabited, count-one, prefix-whole, prefix-of, false-if, prefix-start, tree-empty, before-smaller}
+use Rattle.loes.specs.Edges.{level, recordBits, ones, edges, edgesBefore, rank, onesBefore, edgeOffsets, allSet, present, lastOf, edgeIndex}
+use Rattle.loes.proofs.Lists.{ones-append, length-bits}
+use Rattle.loes.proofs.Tree.{inhabited, treeLevel, prefixCount, level-tree, ones-tree, length-tree, hasPrefix, prefixesBefore, before-lt, bit-le, edge-bit, edge-rank, length-snoc, prefix-shorter, prefix-inhabited, count-one, prefix-whole, prefix-of, false-if, prefix-start, tree-empty, before-smaller}
 
 -- the records of the levels before d
 unfoldable pub recordsBefore : ℕ → ℕ → KeySet → ℕ

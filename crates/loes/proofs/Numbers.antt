@@ -1,10 +1,10 @@
 -- Numbers in bytes: what was written is read, and bytes are the numbers that are read in them.
 use mathlib.Core.Path.{_≡_, refl, sym, ap, _∙_}
 use Prim.Native.Nat.{ℕ, zero, suc, _+_, _-_, _*_, _/_, _%_, _^_, _≤_, _<_}
-use mathlib.Core.List.{List, [], _∷_, _++_, append-assoc}
+use mathlib.Core.List.{[], _∷_, _++_, append-assoc}
 use native.Mathlib.Omega.{arith}
 use native.Mathlib.Decide.{decLe}
-use native.Mathlib.Nat.{mul-suc, mul-comm}
+use native.Mathlib.Nat.{mul-comm}
 use lib.ListN.{length, take, drop, getD, length-drop}
 use lib.Seq.{take-at, drop-at, drop-drop, take-all, take-suc, take-add, length-take-le}
 use Rattle.loes.specs.Bytes.{Bytes, bigEndian, bigEndians, bytesValue, numberAt}

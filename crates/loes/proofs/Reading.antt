@@ -1,25 +1,25 @@
 -- An encoding is read as its entry, and nothing else is read.
-use mathlib.Core.Path.{_≡_, refl, sym, ap, ap₂, _∙_, fun-ext, subst}
+use mathlib.Core.Path.{_≡_, refl, sym, ap, _∙_, fun-ext, subst}
 use mathlib.Core.Logic.{_↔_}
-use Prim.Native.Nat.{ℕ, zero, suc, _+_, _-_, _*_, _/_, _%_, _^_, _≤_, _<_}
+use Prim.Native.Nat.{ℕ, suc, _+_, _-_, _*_, _/_, _^_, _≤_, _<_}
 use mathlib.Core.Bool.{Bool, true, false, _&&_, not, false≢true}
-use mathlib.Core.List.{List, [], _∷_, _++_}
+use mathlib.Core.List.{[], _++_}
 use mathlib.Core.Option.{Option, none, some}
 use native.Mathlib.Omega.{arith}
 use native.Mathlib.Decide.{decLe}
-use lib.ListN.{length, take, drop, getD, length-append, length-drop, List·getD-append}
-use lib.Seq.{take-at, drop-at, drop-drop, getD-drop}
+use lib.ListN.{length, drop, getD, length-append, length-drop, List·getD-append}
+use lib.Seq.{drop-at, drop-drop, getD-drop}
 use lib.Dec.{eqb, ltb}
 use Rattle.loes.specs.Limits.{maxWidth, maxEdges, blockBits, subBlockBits}
-use Rattle.loes.specs.Bytes.{Bytes, join, sameNumbers, started, bigEndian, bigEndians, numberAt, packBits, bitAt, bitsIn}
+use Rattle.loes.specs.Bytes.{Bytes, join, sameNumbers, started, bigEndian, numberAt, bitAt, bitsIn}
 use Rattle.loes.specs.Keys.{Key, KeySet}
-use Rattle.loes.specs.Edges.{present, edges, edgesBefore}
+use Rattle.loes.specs.Edges.{present, edges}
 use Rattle.loes.specs.Entry.{Entry, count, edgesOf, edgeCount, ofWidth, wrongWidth, tooManyEdges, Valid}
 use Rattle.loes.specs.Encode.{field, blockOnes, subBlockOnes, levelEnd, widthBody, countBody, levelBody, edgeBody, blockBody, subBlockBody, encode}
-use Rattle.loes.specs.Refusals.{Tests, test, firstOf}
+use Rattle.loes.specs.Refusals.{test, firstOf}
 use Rattle.loes.specs.Read.{levelBytes, edgeBytes, blockBytes, subBlockBytes, start2, start3, start4, start5, start6, endOf, widthIn, edgeCountIn, edgesIn, followed, entryIn, fieldTests, headTests, tailTests, readTests, Reading, rejected, opened, readingOf, read}
 use Rattle.loes.proofs.Tests.{lt-no, no-lt, eq-yes, yes-eq, both, neither, not-false, same-self, same-is, none-append, none-test, none-first}
-use Rattle.loes.proofs.Bytes.{length-bigEndian, length-bigEndians, length-packed, length-tabulate, getD-tabulate, field-length}
+use Rattle.loes.proofs.Bytes.{length-bigEndian, length-bigEndians, length-packed, field-length}
 use Rattle.loes.proofs.Bits.{bits-packed, tabulate-ext}
 use Rattle.loes.proofs.Numbers.{number-at, numbers-at}
 use Rattle.loes.proofs.Navigation.{present-is}

@@ -1,7 +1,7 @@
 -- What 7 means number by number: for bytes that pass every test before it.
 use mathlib.Core.Path.{_≡_, refl, sym, ap, ap₂, _∙_, subst}
 use mathlib.Core.Logic.{_↔_}
-use Prim.Native.Nat.{ℕ, zero, suc, _+_, _-_, _*_, _/_, _%_, _^_, _≤_, _<_}
+use Prim.Native.Nat.{ℕ, zero, suc, _+_, _-_, _*_, _/_, _%_, _≤_, _<_}
 use mathlib.Core.Bool.{Bool, true, false, not}
 use mathlib.Core.List.{List, [], _∷_, _++_, append-assoc}
 use mathlib.Core.Option.{none}
@@ -11,18 +11,18 @@ use lib.ListN.{length, take, drop, getD, length-append, length-drop, take-append
 use lib.Seq.{take-at, drop-drop, drop-cons, length-take-le}
 use lib.Dec.{eqb, ltb}
 use Rattle.loes.specs.Limits.{blockBits, subBlockBits}
-use Rattle.loes.specs.Bytes.{Bytes, join, started, bigEndian, bigEndians, numberAt}
+use Rattle.loes.specs.Bytes.{Bytes, join, started, bigEndian, numberAt}
 use Rattle.loes.specs.Keys.{members}
 use Rattle.loes.specs.Edges.{level, recordBits, edgesBefore, edges, ones, onesBefore}
 use Rattle.loes.specs.Entry.{Entry, keysOf, count, edgesOf, edgeCount, Valid}
 use Rattle.loes.specs.Encode.{field, blockOnes, subBlockOnes, levelEnd, widthBody, countBody, levelBody, edgeBody, blockBody, subBlockBody, encode}
 use Rattle.loes.specs.Refusals.{firstOf}
 use Rattle.loes.specs.Read.{levelBytes, edgeBytes, blockBytes, subBlockBytes, start2, start3, start4, start5, start6, endOf, widthIn, edgeCountIn, followed, entryIn, fieldTests}
-use Rattle.loes.proofs.Tests.{no-lt, yes-eq, not-false, none-test}
+use Rattle.loes.proofs.Tests.{yes-eq, not-false, none-test}
 use Rattle.loes.proofs.Numbers.{AllBytes, number-at, numbers-at, number-is, numbers-are}
 use Rattle.loes.proofs.Navigation.{edges-from}
 use Rattle.loes.proofs.Corollaries.{ones-last}
-use Rattle.loes.proofs.Reading.{body-at, Laid, laid, length-edges, levelEnd-last, width-read, bits-read, entry-read, field-fits, Passed, valid-passed}
+use Rattle.loes.proofs.Reading.{body-at, Laid, laid, length-edges, bits-read, field-fits, Passed, valid-passed}
 
 -- ---- The numbers of an entry fit their bytes
 pub ones-le : (l : List Bool) → ones l ≤ length l

@@ -1,7 +1,7 @@
 -- Tests that compute, as facts; tests in a list.
-use mathlib.Core.Path.{_≡_, refl, sym, ap, ap₂, _∙_, subst}
-use Prim.Native.Nat.{ℕ, zero, suc, _+_, _≤_, _<_}
-use mathlib.Core.Bool.{Bool, true, false, _&&_, _||_, not, cond, false≢true}
+use mathlib.Core.Path.{_≡_, refl, sym, ap₂, subst}
+use Prim.Native.Nat.{ℕ, _+_, _≤_, _<_}
+use mathlib.Core.Bool.{Bool, true, false, _&&_, _||_, not, false≢true}
 use mathlib.Core.List.{List, [], _∷_, _++_}
 use mathlib.Core.Option.{Option, none, some}
 use native.Mathlib.Omega.{arith}
@@ -87,11 +87,6 @@ pub none-test : (b : Bool) (k : ℕ) (l : Tests) → firstOf (test b k ∷ l) �
 unfolding firstOf test
 none-test false k l h = (refl, h)
 none-test true k l h = absurd (no-some k h)
-
-pub test-none : (b : Bool) (k : ℕ) → test b k ≡ none → b ≡ false
-unfolding test
-test-none false k h = refl
-test-none true k h = absurd (no-some k h)
 
 -- ---- Tests behind tests
 pub none-first : (a b : Tests) → firstOf a ≡ none → firstOf (a ++ b) ≡ firstOf b

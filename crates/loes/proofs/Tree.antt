@@ -1,7 +1,7 @@
 -- Levels by recursion on the key's bits, and that they are the levels of the specification.
-use mathlib.Core.Path.{_≡_, refl, sym, ap, ap₂, _∙_, fun-ext}
+use mathlib.Core.Path.{_≡_, refl, sym, ap, ap₂, _∙_}
 use Prim.Native.Nat.{ℕ, zero, suc, _+_, _*_, _≤_, _<_}
-use mathlib.Core.Bool.{Bool, true, false, _&&_, _||_, cond, or-false, or-true, false≢true, true≢false}
+use mathlib.Core.Bool.{Bool, true, false, _||_, cond, or-false, or-true, false≢true, true≢false}
 use mathlib.Core.List.{List, [], _∷_, _++_, map, map-append, map-map, append-nil}
 use native.Mathlib.Omega.{arith}
 use lib.ListN.{length, take, getD, length-append, length-map, List·getD-append}

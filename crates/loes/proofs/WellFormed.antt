@@ -1,17 +1,16 @@
 -- A flat bit sequence is the edge sequence of a set exactly if it is well formed, level by level
-use mathlib.Core.Path.{_≡_, refl, sym, ap, ap₂, _∙_}
+use mathlib.Core.Path.{_≡_, refl, sym, ap, _∙_}
 use Prim.Native.Nat.{ℕ, zero, suc, _+_, _-_, _*_, _≤_, _<_}
-use mathlib.Core.Bool.{Bool, true, false, _&&_, _||_, cond, false≢true, or-true}
+use mathlib.Core.Bool.{Bool, true, false}
 use mathlib.Core.List.{List, [], _∷_, _++_, append-assoc, append-nil, map, map-append}
 use native.Mathlib.Omega.{arith}
-use lib.ListN.{length, take, drop, getD, length-append, length-drop, take-append-drop, drop-of-length-le}
-use lib.Seq.{length-take-le, take-suc, take-all, drop-append-seam, drop-at, take-at, drop-drop, drop-append-add, take-append-seam, drop-length, drop-append-le}
-use Rattle.loes.specs.Bytes.{bit, join}
-use Rattle.loes.specs.Keys.{Key, KeySet}
+use lib.ListN.{length, take, drop, getD, take-append-drop}
+use lib.Seq.{length-take-le, take-suc, take-all}
+use Rattle.loes.specs.Bytes.{join}
+use Rattle.loes.specs.Keys.{KeySet}
 use Rattle.loes.specs.Edges.{Record, recordBits, ones, edges, edgesBefore, level, present}
-use Rattle.loes.proofs.Lists.{length-bits}
-use Rattle.loes.proofs.Tree.{half, inhabited, rootRecord, treeLevel, prefixCount, tree-empty, level-tree, length-tree, ones-tree, count-one}
-use Rattle.loes.proofs.Navigation.{edges-at, recordsBefore, length-edgesBefore, present-is}
+use Rattle.loes.proofs.Tree.{half, inhabited, rootRecord, treeLevel}
+use Rattle.loes.proofs.Navigation.{present-is}
 use Rattle.loes.proofs.Extensional.{edges-ext}
 use Rattle.loes.proofs.Forest.{NoEmpty, Levels, SetOf, complete}
 
@@ -102,27 +101,6 @@ no-empty-tree zero (suc m) s = no-empty-root (inhabited m (half false s)) (inhab
 no-empty-tree (suc d) zero s = tt
 no-empty-tree (suc d) (suc m) s =
     no-empty-append (treeLevel d m (half false s)) (treeLevel d m (half true s)) (no-empty-tree d m (half false s)) (no-empty-tree d m (half true s))
-
-well-from : (j d m : ℕ) (s : KeySet) → d + j ≡ m → WellFormed j (prefixCount d m s) (drop (2 * recordsBefore d m s) (edges m s))
-unfolding recordsBefore edges
-well-from zero d m s h =
-    let q : d ≡ m = omega arith in
-    rw q (drop-of-length-le (edgesBefore m m s) {i = 2 * recordsBefore m m s} (omega (arith, length-edgesBefore m m s (omega arith))))
-well-from (suc j) d m s h =
-    let q : d < m = omega arith in
-    let n : length (recordBits (treeLevel d m s)) ≡ 2 * prefixCount d m s = length-bits (treeLevel d m s) ∙ ap (λ x. 2 * x) (length-tree d m s q) in
-    let x : List Bool = edges-at d m s q .0 in
-    let a : drop (2 * recordsBefore d m s) (edges m s) ≡ recordBits (treeLevel d m s) ++ x =
-    rw (edges-at d m s q .1) (drop-at (edgesBefore d m s) (recordBits (treeLevel d m s) ++ x) (2 * recordsBefore d m s) (length-edgesBefore d m s (omega arith))) in
-    let tk : take (2 * prefixCount d m s) (drop (2 * recordsBefore d m s) (edges m s)) ≡ recordBits (treeLevel d m s) = rw a (take-at (recordBits (treeLevel d m s)) x (2 * prefixCount d m s) n) in
-    let dr : drop (2 * prefixCount d m s) (drop (2 * recordsBefore d m s) (edges m s)) ≡ drop (2 * recordsBefore (suc d) m s) (edges m s) =
-    let z : 2 * recordsBefore d m s + 2 * prefixCount d m s ≡ 2 * recordsBefore (suc d) m s = omega arith in
-    drop-drop (2 * prefixCount d m s) (2 * recordsBefore d m s) (edges m s) ∙ rw z in
-    (rw (a, length-append (recordBits (treeLevel d m s)) x) (omega arith), rw (tk, records-bits) (no-empty-tree d m s), rw (tk, dr, ones-tree) (well-from j (suc d) m s (omega arith)))
-
-pub set-well : (m : ℕ) (s : KeySet) → inhabited m s ≡ true → WellFormed m 1 (edges m s)
-unfolding recordsBefore
-set-well m s h = rw (count-one m s h) at (well-from m 0 m s (omega arith))
 
 -- the set is read back by following edges
 pub well-present : (m : ℕ) (e : List Bool) → WellFormed (suc m) 1 e → edges (suc m) (present e) ≡ e

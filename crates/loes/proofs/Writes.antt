@@ -1,18 +1,16 @@
 -- Calls that write one encoding: what each test that holds, or none, makes of them.
-use mathlib.Core.Path.{_≡_, refl, sym, ap, _∙_}
+use mathlib.Core.Path.{_≡_}
 use Prim.Native.Nat.{ℕ, _≤_, _<_}
-use mathlib.Core.Bool.{Bool, true, false, _||_}
-use mathlib.Core.List.{List, [], _∷_, _++_, map}
-use mathlib.Core.Option.{Option, none, some}
+use mathlib.Core.List.{List, [], _∷_}
+use mathlib.Core.Option.{none, some}
 use lib.ListN.{length}
-use lib.Dec.{ltb}
 use Rattle.loes.specs.Limits.{maxEdges}
 use Rattle.loes.specs.Bytes.{Bytes, front}
 use Rattle.loes.specs.Keys.{any}
 use Rattle.loes.specs.Entry.{Entry, edgeCount, tooManyEdges}
 use Rattle.loes.specs.Encode.{encode}
 use Rattle.loes.specs.Refusals.{tooLarge, shortBuffer, Tests, test, firstOf}
-use Rattle.loes.specs.Model.{refused, wrote, Step, refusal, refusedOr, tested, fronts, anyShort, writes}
+use Rattle.loes.specs.Model.{wrote, refusal, refusedOr, tested, fronts, anyShort, writes}
 use Rattle.loes.proofs.Tests.{lt-yes, lt-no, none-first, some-first}
 
 -- one of the call's own tests holds

@@ -2,10 +2,10 @@
 use Prim.Native.Nat.{ℕ, suc, _+_, _*_, _/_, _%_}
 use mathlib.Core.Bool.{Bool}
 use mathlib.Core.List.{List, [], _∷_, _++_}
-use lib.ListN.{length, take, drop}
+use lib.ListN.{length, drop}
 use Rattle.loes.specs.Limits.{blockBits, subBlockBits}
 use Rattle.loes.specs.Bytes.{Bytes, join, started, bigEndian, bigEndians, packBits}
-use Rattle.loes.specs.Edges.{edgesBefore, ones, onesBefore}
+use Rattle.loes.specs.Edges.{edgesBefore, onesBefore}
 use Rattle.loes.specs.Entry.{Entry, count, edgesOf, edgeCount}
 
 -- a field: a one-byte tag, a two-byte length and that many bytes

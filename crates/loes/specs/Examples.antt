@@ -1,16 +1,16 @@
 -- Document 01's worked examples, each by its number. The proof of each is computation.
 use mathlib.Core.Path.{_≡_}
 use Prim.Native.Nat.{ℕ}
-use mathlib.Core.Bool.{Bool, true, false}
+use mathlib.Core.Bool.{true, false}
 use mathlib.Core.List.{List, [], _∷_, _++_}
-use lib.ListN.{length, take, drop, getD, replicate}
+use lib.ListN.{take, drop, getD, replicate}
 use Rattle.loes.specs.Limits.{subBlockBits}
 use Rattle.loes.specs.Bytes.{Bytes, started, packBits}
 use Rattle.loes.specs.Keys.{Key, setOf}
-use Rattle.loes.specs.Edges.{rank, lastOf, edgeOffsets, edgesBefore, ones, edgeIndex}
+use Rattle.loes.specs.Edges.{lastOf, edgeOffsets, edgesBefore, ones, edgeIndex}
 use Rattle.loes.specs.Entry.{Entry, edgesOf, edgeCount}
 use Rattle.loes.specs.Encode.{blockOnes, subBlockOnes, encode}
-use Rattle.loes.specs.Model.{Answer, refused, wrote, wroteKey, tells, isPresent, isAbsent, isNone, indexIs, rankIs, Outcome}
+use Rattle.loes.specs.Model.{Answer, refused, wrote, wroteKey, tells, isAbsent, isNone, indexIs, rankIs, Outcome}
 use Rattle.loes.specs.Calls.{packCall, unionCall, differenceCall, openCall, containsCall, indexOfCall, keyAtCall, rankCall, lowerBoundCall}
 use Rattle.loes.specs.Cursor.{State, before, at, after, Cursor, Advanced, advanceCall}
 
