@@ -142,17 +142,20 @@ edges-read e v =
     (unfold edgeBody edgeCount in bits-packed (edgesOf e))
 
 -- following an entry's edges gives the entry
-pub followed-edges : (e : Entry) → Valid e → followed (e .width) (edgesOf e) ≡ e
+pub followed-sized : (e : Entry) → 0 < e .width → ((k : Key) → e .set k ≡ true → length k ≡ e .width) → followed (e .width) (edgesOf e) ≡ e
 unfolding followed ofWidth edgesOf
-followed-edges e v = ap (λ (s : KeySet). record { width = e .width; set = s }) (fun-ext λ k. go k (eqb (length k) (e .width)) refl)
+followed-sized e p s = ap (λ (s : KeySet). record { width = e .width; set = s }) (fun-ext λ k. go k (eqb (length k) (e .width)) refl)
   where
     off : (k : Key) (b : Bool) → e .set k ≡ b → eqb (length k) (e .width) ≡ false → false ≡ e .set k
     off k false h z = sym h
-    off k true h z = absurd (false≢true (sym z ∙ ap (λ n. eqb n (e .width)) (v .sized k h) ∙ eq-yes (e .width)))
+    off k true h z = absurd (false≢true (sym z ∙ ap (λ n. eqb n (e .width)) (s k h) ∙ eq-yes (e .width)))
 
     go : (k : Key) (b : Bool) → eqb (length k) (e .width) ≡ b → (b && present (edges (e .width) (e .set)) k) ≡ e .set k
-    go k true z = present-is k (e .width) (e .set) (yes-eq (length k) (e .width) z) (v .positive)
+    go k true z = present-is k (e .width) (e .set) (yes-eq (length k) (e .width) z) p
     go k false z = off k (e .set k) refl z
+
+pub followed-edges : (e : Entry) → Valid e → followed (e .width) (edgesOf e) ≡ e
+followed-edges e v = followed-sized e (v .positive) (v .sized)
 
 pub entry-read : (e : Entry) → Valid e → entryIn (encode e) ≡ e
 unfolding entryIn

@@ -43,6 +43,13 @@ eq-yes n = is-true (eqb n n) (eqb-refl n)
 pub yes-eq : (m n : ℕ) → eqb m n ≡ true → m ≡ n
 yes-eq m n h = eqb→eq m n (is-T (eqb m n) h)
 
+pub eq-no : (m n : ℕ) → (m ≡ n → ⊥) → eqb m n ≡ false
+eq-no m n h = go (eqb m n) refl
+  where
+    go : (b : Bool) → eqb m n ≡ b → b ≡ false
+    go true e = absurd (h (yes-eq m n e))
+    go false e = refl
+
 pub both : (a b : Bool) → (a && b) ≡ true → (a ≡ true) × (b ≡ true)
 both true b h = (refl, h)
 both false b h = absurd (false≢true h)

@@ -1,0 +1,97 @@
+-- Set bits of bytes, counted byte by byte.
+use mathlib.Core.Path.{_≡_, refl, sym, ap, ap₂, _∙_}
+use Prim.Native.Nat.{ℕ, zero, suc, _+_, _-_, _*_, _/_, _%_, _^_, _≤_, _<_}
+use mathlib.Core.Bool.{Bool}
+use mathlib.Core.List.{List, [], _∷_, _++_, append-nil, append-assoc}
+use native.Mathlib.Omega.{arith}
+use native.Mathlib.Nat.{pow-suc, div-div-eq-div-mul, div-le-self}
+use lib.ListN.{length, take, drop, getD}
+use lib.Seq.{getD-drop, take-at}
+use lib.Count
+use Rattle.loes.specs.Bytes.{Bytes, bit, odd, tabulate, bitAt, bitsIn, bitsValue}
+use Rattle.loes.specs.Edges.{ones, onesBefore}
+use Rattle.loes.proofs.Lists.{ones-append}
+use Rattle.loes.proofs.Bytes.{length-tabulate}
+use Rattle.loes.proofs.Bits.{at-bit, tabulate-ext, count-bitsValue, byte-bitsValue, bit-odd, bitsValue-snoc}
+use Rattle.loes.proofs.Seven.{ones-le}
+use Rattle.bits.specs.Tables.{bits8}
+
+pub tabulate-add : {A : Type 0} (f : ℕ → A) (n k : ℕ) → tabulate f (n + k) ≡ tabulate f n ++ tabulate (λ (j : ℕ). f (n + j)) k
+unfolding tabulate
+tabulate-add f n zero = let z : n + 0 ≡ n = omega arith in rw z (sym (append-nil (tabulate f n)))
+tabulate-add f n (suc k) =
+    let z : n + suc k ≡ suc (n + k) = omega arith in
+    rw (z, tabulate-add f n k) (append-assoc (tabulate f n) (tabulate (λ (j : ℕ). f (n + j)) k) (f (n + k) ∷ []))
+
+pub length-bitsIn : (l : Bytes) (n : ℕ) → length (bitsIn l n) ≡ n
+unfolding bitsIn
+length-bitsIn l n = length-tabulate (bitAt l) n
+
+pub ones-bits-le : (l : Bytes) (n : ℕ) → ones (bitsIn l n) ≤ n
+ones-bits-le l n = omega (arith, ones-le (bitsIn l n), length-bitsIn l n)
+
+-- the first k of b bits
+pub before-bits : (l : Bytes) (b k : ℕ) → k ≤ b → onesBefore (bitsIn l b) k ≡ ones (bitsIn l k)
+unfolding onesBefore bitsIn
+before-bits l b k h =
+    let z : k + (b - k) ≡ b = omega arith in
+    ap (λ n. ones (take k (tabulate (bitAt l) n))) (sym z)
+    ∙ rw (tabulate-add (bitAt l) k (b - k), take-at (tabulate (bitAt l) k) (tabulate (λ (j : ℕ). bitAt l (k + j)) (b - k)) k (length-tabulate (bitAt l) k))
+
+-- the bits from byte i on
+pub bit-from : (l : Bytes) (i j : ℕ) → bitAt l (8 * i + j) ≡ bitAt (drop i l) j
+unfolding bitAt
+bit-from l i j =
+    let q : (8 * i + j) / 8 ≡ i + j / 8 = omega arith in
+    let r : (8 * i + j) % 8 ≡ j % 8 = omega arith in
+    rw (q, r, getD-drop i l (j / 8) 0)
+
+bits-from : (l : Bytes) (i n : ℕ) → tabulate (λ (j : ℕ). bitAt l (8 * i + j)) n ≡ bitsIn (drop i l) n
+unfolding bitsIn
+bits-from l i n = tabulate-ext (λ (j : ℕ). bitAt l (8 * i + j)) (bitAt (drop i l)) n (λ j h. bit-from l i j)
+
+-- the bits of i bytes and n bits more
+pub bits-more : (l : Bytes) (i n : ℕ) → bitsIn l (8 * i + n) ≡ bitsIn l (8 * i) ++ bitsIn (drop i l) n
+unfolding bitsIn
+bits-more l i n = tabulate-add (bitAt l) (8 * i) n ∙ ap (λ x. tabulate (bitAt l) (8 * i) ++ x) (bits-from l i n)
+
+pub ones-more : (l : Bytes) (i n : ℕ) → ones (bitsIn l (8 * i + n)) ≡ ones (bitsIn l (8 * i)) + ones (bitsIn (drop i l) n)
+ones-more l i n = ap ones (bits-more l i n) ∙ ones-append (bitsIn l (8 * i)) (bitsIn (drop i l) n)
+
+-- the first k bits of byte i
+pub byte-bits : (l : Bytes) (i k : ℕ) → k ≤ 8 → bitsIn (drop i l) k ≡ tabulate (λ (j : ℕ). odd (getD l i 0 / 2 ^ (7 - j))) k
+byte-bits l i k h =
+    sym (bits-from l i k)
+    ∙ tabulate-ext (λ (j : ℕ). bitAt l (8 * i + j)) (λ (j : ℕ). odd (getD l i 0 / 2 ^ (7 - j))) k (λ j q. at-bit l i j (omega arith))
+
+pub byte-more : (l : Bytes) (n : ℕ) → bitsIn l (8 * suc n) ≡ bitsIn l (8 * n) ++ bits8 (getD l n 0)
+unfolding bits8
+byte-more l n =
+    let z : 8 * suc n ≡ 8 * n + 8 = omega arith in
+    ap (bitsIn l) z ∙ bits-more l n 8 ∙ ap (λ x. bitsIn l (8 * n) ++ x) (byte-bits l n 8 (omega arith))
+
+-- ---- The first bits of a byte are the bits of what is left when it is shifted
+front-value : (x k : ℕ) → x < 256 → k ≤ 8 → bitsValue (tabulate (λ (j : ℕ). odd (x / 2 ^ (7 - j))) k) 0 ≡ x / 2 ^ (8 - k)
+unfolding tabulate
+front-value x zero h l = unfold bitsValue in omega arith
+front-value x (suc k) h l =
+    let f : ℕ → Bool = λ (j : ℕ). odd (x / 2 ^ (7 - j)) in
+    let y : ℕ = x / 2 ^ (7 - k) in
+    let z : 8 - k ≡ suc (7 - k) = omega arith in
+    let w : 8 - suc k ≡ 7 - k = omega arith in
+    let d : x / 2 ^ (8 - k) ≡ y / 2 = ap (λ n. x / 2 ^ n) z ∙ ap (λ n. x / n) (pow-suc 2 (7 - k)) ∙ sym (div-div-eq-div-mul x (2 ^ (7 - k)) 2) in
+    bitsValue-snoc (tabulate f k) (f k) 0 ∙ rw (front-value x k h (omega arith), bit-odd y, w, d) (omega arith)
+
+count-byte : (x : ℕ) → x < 256 → ones (bits8 x) ≡ Count.ones x
+unfolding bits8
+count-byte x h = let f : ℕ → Bool = λ (j : ℕ). odd (x / 2 ^ (7 - j)) in sym (count-bitsValue f 8) ∙ ap Count.ones (byte-bitsValue x h)
+
+pub shift-small : (x k : ℕ) → x < 256 → x / 2 ^ k < 256
+shift-small x k h = omega (arith, div-le-self x (2 ^ k))
+
+-- byte i, shifted so that k bits are left
+pub part-ones : (l : Bytes) (i k : ℕ) → getD l i 0 < 256 → k ≤ 8 → ones (bits8 (getD l i 0 / 2 ^ (8 - k))) ≡ ones (bitsIn (drop i l) k)
+part-ones l i k h q =
+    let x : ℕ = getD l i 0 in
+    let f : ℕ → Bool = λ (j : ℕ). odd (x / 2 ^ (7 - j)) in
+    count-byte (x / 2 ^ (8 - k)) (shift-small x (8 - k) h) ∙ ap Count.ones (sym (front-value x k h q)) ∙ count-bitsValue f k ∙ ap ones (sym (byte-bits l i k q))

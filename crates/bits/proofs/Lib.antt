@@ -1,0 +1,7 @@
+-- Laws of bits and numbers in bytes, for the code.
+pub mod Table
+pub mod Halves
+pub mod Counts
+pub mod Tally
+pub mod Part
+pub mod Packed

@@ -1,0 +1,32 @@
+use denote.Ref.{now}
+use native.Mathlib.Omega.{arith}
+use Rattle.bits.proofs.Halves.{halves}
+use borrow.Author.Needs.{needs}
+use Rattle.bits.proofs.number4.Statement.{statement}
+use Rattle.bits.proofs.number4.Tie as tie
+
+number2-requires : tie.Need-number2-requires
+number2-requires c κs = search needs
+
+mul-result : tie.Need-mul-result
+mul-result c = search needs
+
+add-number2 : tie.Need-add-number2
+add-number2 c = search needs
+
+number2-requires-2 : tie.Need-number2-requires-2
+number2-requires-2 c κs = search needs
+
+add-result : tie.Need-add-result
+add-result c = search needs
+
+returns : tie.Need-returns
+returns c =
+    let s = c .before .before .before in
+    let n = halves 2 (now (s .args .l)) (s .args .at) (s .pre) in
+    (omega (arith, n), omega arith)
+
+pub number4-spec : {M : Type 1} → statement M
+number4-spec =
+    tie.close
+    (tie.spec number2-requires mul-result add-number2 number2-requires-2 add-result returns)

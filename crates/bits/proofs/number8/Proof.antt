@@ -1,0 +1,32 @@
+use denote.Ref.{now}
+use native.Mathlib.Omega.{arith}
+use Rattle.bits.proofs.Halves.{halves}
+use borrow.Author.Needs.{needs}
+use Rattle.bits.proofs.number8.Statement.{statement}
+use Rattle.bits.proofs.number8.Tie as tie
+
+number4-requires : tie.Need-number4-requires
+number4-requires c κs = search needs
+
+mul-result : tie.Need-mul-result
+mul-result c = search needs
+
+add-number4 : tie.Need-add-number4
+add-number4 c = search needs
+
+number4-requires-2 : tie.Need-number4-requires-2
+number4-requires-2 c κs = search needs
+
+add-result : tie.Need-add-result
+add-result c = search needs
+
+returns : tie.Need-returns
+returns c =
+    let s = c .before .before .before in
+    let n = halves 4 (now (s .args .l)) (s .args .at) (s .pre) in
+    omega (arith, n)
+
+pub number8-spec : {M : Type 1} → statement M
+number8-spec =
+    tie.close
+    (tie.spec number4-requires mul-result add-number4 number4-requires-2 add-result returns)

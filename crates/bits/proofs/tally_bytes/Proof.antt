@@ -1,0 +1,91 @@
+use denote.Ref.{now}
+use native.Mathlib.Omega.{arith}
+use mathlib.Core.Path.{_≡_, refl, ap, _∙_}
+use Prim.Native.Nat.{ℕ, _+_, _-_, _*_, _<_, _≤_}
+use lib.ListN.{length, drop, getD}
+use Rattle.bits.specs.Tables.{tally, tallyOf}
+use Rattle.bits.proofs.Tally.{tally-le, tally-more}
+use Rattle.bits.proofs.tally_bytes.Statement.{statement}
+use Rattle.bits.proofs.tally_bytes.Tie as tie
+
+abbrev Inv-loop : tie.InvT-loop
+Inv-loop l t from upto sum₀ i₀ sum i = (from ≤ i) × (i ≤ upto) × (sum ≡ tally (drop from l) (i - from))
+
+abbrev μ-loop : tie.MeasureT-loop
+μ-loop l t from upto sum₀ i₀ sum i = upto - i
+
+abbrev Here : Type 0
+Here = tie.After-shared-slice-known2 Inv-loop μ-loop
+
+abbrev byte : Here → ℕ
+byte c = getD (now (c .before .before .before .before .args .l)) (c .before .before .before .loop .i) 0
+
+small : (c : Here) → byte c < 256
+small c = omega (arith, c .before .shared-slice-known .given (c .before .before .before .loop .i))
+
+entry : (c : Here) → getD (now (c .before .before .before .before .args .t)) (byte c) 0 ≡ tallyOf (byte c)
+entry c = c .before .before .before .before .pre .3 .rule (byte c) (small c)
+
+loop-holds : tie.Need-loop-holds Inv-loop μ-loop
+unfolding tally
+loop-holds c =
+    let l = now (c .args .l) in
+    let z : c .args .from - c .args .from ≡ 0 = omega arith in
+    (omega arith, omega arith, rw z)
+
+shared-slice-read-x : tie.Need-shared-slice-read-x Inv-loop μ-loop
+shared-slice-read-x c = omega arith
+
+cast-x : tie.Need-cast-x Inv-loop μ-loop
+cast-x c = omega (arith, c .shared-slice-known .given (c .before .before .loop .i))
+
+mul-sum : tie.Need-mul-sum Inv-loop μ-loop
+mul-sum c = omega (arith, c .shared-slice-known .given (c .before .before .loop .i))
+
+shared-slice-read-sum : tie.Need-shared-slice-read-sum Inv-loop μ-loop
+shared-slice-read-sum c = omega (arith, small c, c .before .before .before .before .pre .3 .size)
+
+cast-sum : tie.Need-cast-sum Inv-loop μ-loop
+cast-sum c = omega (arith, c .shared-slice-known2 .given (byte c))
+
+add-sum : tie.Need-add-sum Inv-loop μ-loop
+add-sum c =
+    let h = c .before .before .before in
+    let a = h .before .args in
+    omega (arith, c .shared-slice-known2 .given (byte c), h .loop .inv .2, tally-le (drop (a .from) (now (a .l))) (h .loop .i - a .from))
+
+add-i : tie.Need-add-i Inv-loop μ-loop
+add-i c = omega arith
+
+loop-less : tie.Need-loop-less Inv-loop μ-loop
+loop-less c = omega arith
+
+loop-again : tie.Need-loop-again Inv-loop μ-loop
+loop-again c =
+    let h = c .before .before .before .loop in
+    let a = c .before .before .before .before .args in
+    (omega arith, omega arith, omega (arith, entry c, h .inv .2, tally-more (now (a .l)) (a .from) (h .i) (h .inv .0)))
+
+returns : tie.Need-returns Inv-loop μ-loop
+returns c =
+    let h = c .before .loop in
+    let z : h .i ≡ c .before .before .args .upto = omega arith in
+    rw z at (h .inv .2)
+
+pub tally-bytes-spec : {M : Type 1} → statement M
+tally-bytes-spec =
+    tie.close
+    (tie.spec
+    Inv-loop
+    μ-loop
+    loop-holds
+    shared-slice-read-x
+    cast-x
+    mul-sum
+    shared-slice-read-sum
+    cast-sum
+    add-sum
+    add-i
+    loop-less
+    loop-again
+    returns)

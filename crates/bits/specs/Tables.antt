@@ -1,0 +1,49 @@
+-- The constant tables, as they are lent: set-bit places, and tallies of bytes.
+use mathlib.Core.Path.{_≡_}
+use Prim.Native.Nat.{ℕ, zero, suc, _+_, _-_, _*_, _/_, _%_, _^_, _<_}
+use mathlib.Core.Bool.{Bool, true, false, _&&_, _||_, not}
+use mathlib.Core.List.{List, [], _∷_}
+use lib.ListN.{length, getD}
+use Rattle.loes.specs.Bytes.{Bytes, bit, odd, tabulate}
+use Rattle.loes.specs.Edges.{ones}
+
+-- the bits of a byte, the most significant first
+unfoldable pub bits8 : ℕ → List Bool
+bits8 v = tabulate (λ (j : ℕ). odd (v / 2 ^ (7 - j))) 8
+
+-- the place of set bit number k, counted from 0, or the length where there is none
+unfoldable pub select : List Bool → ℕ → ℕ
+select [] k = 0
+select (true ∷ e) zero = 0
+select (true ∷ e) (suc k) = suc (select e k)
+select (false ∷ e) k = suc (select e k)
+
+-- entry i of the table of places: for byte i / 8 and k = i % 8
+unfoldable pub placeOf : ℕ → ℕ
+placeOf i = select (bits8 (i / 8)) (i % 8)
+
+-- each record of a bit sequence has an edge
+unfoldable pub noneEmpty : List Bool → Bool
+noneEmpty [] = true
+noneEmpty (a ∷ []) = true
+noneEmpty (a ∷ b ∷ e) = (a || b) && noneEmpty e
+
+-- the set bits of a byte, and 1,024 more if one of its records is empty
+unfoldable pub tallyOf : ℕ → ℕ
+tallyOf x = ones (bits8 x) + 1024 * bit (not (noneEmpty (bits8 x)))
+
+-- the tallies of the first n bytes
+unfoldable pub tally : Bytes → ℕ → ℕ
+tally l zero = 0
+tally l (suc n) = tally l n + tallyOf (getD l n 0)
+
+-- a lent table has n entries, entry i is f i
+pub record Table (f : ℕ → ℕ) (n : ℕ) (t : List ℕ) : Type 0 where
+  pub size : length t ≡ n
+  pub rule : (i : ℕ) → i < n → getD t i 0 ≡ f i
+
+abbrev pub Places : List ℕ → Type 0
+Places t = Table placeOf 2048 t
+
+abbrev pub Tallies : List ℕ → Type 0
+Tallies t = Table tallyOf 256 t

@@ -1,0 +1,4 @@
+pub mod Front
+pub mod Shape
+pub mod Fields
+pub mod Sealing

@@ -1,0 +1,99 @@
+-- The level ends and the count of the entry that edge bytes hold.
+use mathlib.Core.Path.{_≡_, refl, sym, ap, ap₂, _∙_}
+use Prim.Native.Nat.{ℕ, zero, suc, _+_, _-_, _*_, _/_, _%_, _≤_, _<_}
+use mathlib.Core.Bool.{Bool, true, false}
+use mathlib.Core.List.{List, [], _∷_}
+use native.Mathlib.Omega.{arith}
+use lib.ListN.{length, take}
+use lib.Seq.{take-all, take-add}
+use lib.Dec.{ltb}
+use Rattle.loes.specs.Limits.{blockBits, subBlockBits}
+use Rattle.loes.specs.Bytes.{Bytes, bitsIn}
+use Rattle.loes.specs.Edges.{ones, onesBefore}
+use Rattle.loes.specs.Entry.{keysOf, count, edgesOf, edgeCount}
+use Rattle.loes.specs.Encode.{blockOnes, subBlockOnes, levelEnd}
+use Rattle.loes.specs.Read.{followed}
+use Rattle.loes.specs.Held.{held, Holds}
+use Rattle.loes.proofs.Lists.{ones-append}
+use Rattle.loes.proofs.Tree.{prefixCount, bit-le}
+use Rattle.loes.proofs.Ends.{roots, ends, ends-set, roots-set, count-set}
+use Rattle.loes.proofs.Reading.{levelEnd-last}
+use Rattle.loes.proofs.Seven.{level-le}
+use Rattle.bits.proofs.Counts.{length-bitsIn, before-bits}
+
+before-all : (e : List Bool) (n : ℕ) → onesBefore e n ≤ ones e
+unfolding onesBefore ones
+before-all e zero = omega arith
+before-all [] (suc n) = omega arith
+before-all (true ∷ e) (suc n) = omega (arith, before-all e n)
+before-all (false ∷ e) (suc n) = before-all e n
+
+pub roots-le : (b : ℕ) → roots b ≤ 1
+unfolding roots
+roots-le b = bit-le (ltb 0 b)
+
+module _ (m b : ℕ) (l : Bytes) (h : Holds m b l) where
+  pub held-bits : edgeCount (held m b l) ≡ b
+  unfolding edgeCount
+  held-bits = ap length (h .same) ∙ length-bitsIn l b
+
+  held-roots : prefixCount 0 m (held m b l .set) ≡ roots b
+  unfolding edgeCount edgesOf held followed
+  held-roots = roots-set m (held m b l .set) (h .positive) ∙ ap roots held-bits
+
+  pub held-ends : (d : ℕ) → d < m → levelEnd (held m b l) d ≡ ends (roots b) (bitsIn l b) (suc d)
+  unfolding levelEnd edgesOf held followed
+  held-ends d q = ends-set (suc d) m (held m b l .set) q ∙ ap₂ (λ c e. ends c e (suc d)) held-roots (h .same)
+
+  -- no level ends behind the last
+  pub ends-le : (d : ℕ) → d < m → ends (roots b) (bitsIn l b) (suc d) ≤ b
+  unfolding held followed
+  ends-le d q = omega (arith, held-ends d q, level-le (held m b l) d q, held-bits)
+
+  pub ends-last : ends (roots b) (bitsIn l b) m ≡ b
+  unfolding held followed
+  ends-last =
+      let z : suc (m - 1) ≡ m = omega (arith, h .positive) in
+      ap (ends (roots b) (bitsIn l b)) (sym z) ∙ sym (held-ends (m - 1) (omega (arith, h .positive))) ∙ levelEnd-last (held m b l) (h .positive) ∙ held-bits
+
+  all-ones : (n : ℕ) → n ≡ onesBefore (bitsIn l b) (ends (roots b) (bitsIn l b) m) → n ≡ ones (bitsIn l b)
+  unfolding onesBefore
+  all-ones n q = q ∙ ap (λ k. ones (take k (bitsIn l b))) ends-last ∙ ap ones (take-all b (bitsIn l b) (omega (arith, length-bitsIn l b)))
+
+  -- all set bits and the roots are more than the records
+  pub enough : (n : ℕ) → n ≡ onesBefore (bitsIn l b) (ends (roots b) (bitsIn l b) m) → b / 2 ≤ roots b + n
+  unfolding ends
+  enough n q = go m refl (h .positive)
+    where
+      go : (k : ℕ) → m ≡ k → 0 < k → b / 2 ≤ roots b + n
+      go zero z p = absurd (omega arith)
+      go (suc k) z p =
+          let e : ends (roots b) (bitsIn l b) (suc k) ≡ b = ap (ends (roots b) (bitsIn l b)) (sym z) ∙ ends-last in
+          unfold ends in omega (arith, e, all-ones n q, before-all (bitsIn l b) (ends (roots b) (bitsIn l b) k))
+
+  pub held-count : (n : ℕ) → n ≡ onesBefore (bitsIn l b) (ends (roots b) (bitsIn l b) m) → roots b + n - b / 2 ≡ count (held m b l)
+  unfolding count keysOf edgeCount edgesOf held followed
+  held-count n q =
+      ap₂ (λ c k. c + k - b / 2) (sym held-roots) (all-ones n q ∙ ap ones (sym (h .same))) ∙ ap (λ k. prefixCount 0 m (held m b l .set) + ones (edgesOf (held m b l)) - k / 2) (sym held-bits)
+      ∙ sym (count-set m (held m b l .set))
+
+-- ---- The index entries
+-- set bits of whole bytes before block j, and before sub-block j
+pub block-value : (l : Bytes) (b j n : ℕ) → n ≡ 8192 * j → blockBits * j ≤ b → ones (bitsIn l (8 * n)) ≡ blockOnes (bitsIn l b) j
+unfolding blockOnes
+block-value l b j n e h = let z : 8 * n ≡ blockBits * j = omega arith in ap (λ k. ones (bitsIn l k)) z ∙ sym (before-bits l b (blockBits * j) h)
+
+pub before-value : (l : Bytes) (b j n : ℕ) → n ≡ 64 * j → subBlockBits * j ≤ b → ones (bitsIn l (8 * n)) ≡ onesBefore (bitsIn l b) (subBlockBits * j)
+before-value l b j n e h = let z : 8 * n ≡ subBlockBits * j = omega arith in ap (λ k. ones (bitsIn l k)) z ∙ sym (before-bits l b (subBlockBits * j) h)
+
+-- a sub-block's count and its block's are the set bits before it
+pub sub-start : (e : List Bool) (j : ℕ) → blockOnes e (j / 128) + subBlockOnes e j ≡ onesBefore e (subBlockBits * j)
+unfolding blockOnes subBlockOnes onesBefore
+sub-start e j =
+    let z : subBlockBits * j ≡ blockBits * (j / 128) + subBlockBits * (j % 128) = omega arith in
+    rw (z, take-add (blockBits * (j / 128)) (subBlockBits * (j % 128)) e, ones-append)
+
+-- the count of a block is that of its first sub-block
+pub first-sub : (e : List Bool) (j : ℕ) → j % 128 ≡ 0 → onesBefore e (subBlockBits * j) ≡ blockOnes e (j / 128)
+unfolding blockOnes
+first-sub e j h = let z : subBlockBits * j ≡ blockBits * (j / 128) = omega arith in ap (onesBefore e) z

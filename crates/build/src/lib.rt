@@ -1,0 +1,281 @@
+// The one writer: an encoding from its edge bytes, field behind field.
+ghost use Prim.Native.Nat.{ℕ, _+_, _-_, _*_, _/_, _%_, _^_, _<_, _≤_};
+ghost use mathlib.Core.Path.{_≡_};
+ghost use mathlib.Core.List.{[], _∷_, _++_};
+ghost use lib.ListN.{length, getD};
+ghost use Rattle.loes.specs.Limits.{blockBits, subBlockBits};
+ghost use Rattle.loes.specs.Bytes.{bigEndian, bigEndians, started, bitsIn, front};
+ghost use Rattle.loes.specs.Edges.{ones};
+ghost use Rattle.loes.specs.Encode.{field, blockOnes, subBlockOnes, widthBody, countBody, levelBody, edgeBody, blockBody, subBlockBody, encode};
+ghost use Rattle.loes.specs.Held.{held, Holds};
+ghost use Rattle.loes.proofs.Ends.{roots};
+ghost use Rattle.loes.specs.Model.{writes};
+ghost use Rattle.loes.specs.Read.{levelBytes, edgeBytes, blockBytes, subBlockBytes, endOf};
+ghost use Rattle.bits.specs.Tables.{Tallies};
+ghost use Rattle.build.specs.Writing.{Sealed, Counts, Shaped, writtenOutcome};
+use encoding::Encoding;
+
+// The bytes of a block and of a sub-block, and how many sub-blocks a block has.
+const BLOCK_BYTES: usize = Encoding::BLOCK_BITS / 8;
+
+const SUB_BLOCK_BYTES: usize = Encoding::SUB_BLOCK_BITS / 8;
+// What is added to round a count of them up.
+const BLOCK_REST: usize = Encoding::BLOCK_BITS - 1;
+
+const SUB_BLOCK_REST: usize = Encoding::SUB_BLOCK_BITS - 1;
+
+const SUB_BLOCKS: usize = Encoding::BLOCK_BITS / Encoding::SUB_BLOCK_BITS;
+
+// A number in 2 bytes at the front of a buffer.
+pub fn put2(out: &mut [u8], n: usize)
+    requires { ⌜ 2 ≤ length (now out) ⌝ }
+    ensures { λ _. ⌜ now (out .exit) ≡ front (bigEndian 2 n) (now (out .entry)) ⌝ }
+{
+    out[0] = (n / 256 % 256) as u8;
+    out[1] = (n % 256) as u8;
+}
+
+// The same in 4 bytes.
+pub fn put4(out: &mut [u8], n: usize)
+    requires { ⌜ 4 ≤ length (now out) ⌝ }
+    ensures { λ _. ⌜ now (out .exit) ≡ front (bigEndian 4 n) (now (out .entry)) ⌝ }
+{
+    out[0] = (n / 256 / 256 / 256 % 256) as u8;
+    out[1] = (n / 256 / 256 % 256) as u8;
+    out[2] = (n / 256 % 256) as u8;
+    out[3] = (n % 256) as u8;
+}
+
+// A field's tag and length.
+pub fn put_head(out: &mut [u8], tag: u8, n: usize)
+    requires { ⌜ 3 ≤ length (now out) ⌝ }
+    ensures { λ _. ⌜ now (out .exit) ≡ front (tag ∷ bigEndian 2 n) (now (out .entry)) ⌝ }
+{
+    out[0] = tag;
+    out[1] = (n / 256 % 256) as u8;
+    out[2] = (n % 256) as u8;
+}
+
+// The same in 8 bytes.
+pub fn put8(out: &mut [u8], n: usize)
+    requires { ⌜ (8 ≤ length (now out)) × (n < 2 ^ 32) ⌝ }
+    ensures { λ _. ⌜ now (out .exit) ≡ front (bigEndian 8 n) (now (out .entry)) ⌝ }
+{
+    put4(out, 0);
+    put4(&mut out[4..], n);
+}
+
+// A whole field, from its body.
+pub fn put_field(out: &mut [u8], tag: u8, body: &[u8])
+    requires { ⌜ 3 + length (now body) ≤ length (now out) ⌝ }
+    ensures { λ _. ⌜ now (out .exit) ≡ front (field tag (now (body .entry))) (now (out .entry)) ⌝ }
+{
+    put_head(out, tag, body.len());
+    let n = bytes::copy(body, &mut out[3..]);
+}
+
+// ---- Counting
+// The set bits of so many bytes from the first on.
+pub struct Seen {
+    pub bytes: usize,
+    pub ones: usize,
+}
+
+// Counts on, to the first `upto` bytes.
+fn count_to(edges: &[u8], t: &[u16], s: Seen, upto: usize) -> Seen
+    requires { ⌜ Counts (now edges) s × Tallies (now t) × (s .bytes ≤ upto) × (upto ≤ length (now edges)) × (length (now edges) ≤ 65535) ⌝ }
+    ensures { λ r. ⌜ Counts (now (edges .entry)) r × (r .bytes ≡ upto) ⌝ }
+{
+    let mut n = s.ones;
+    let mut i = s.bytes;
+    while i < upto {
+        let x = edges[i] as usize;
+        n += t[x] as usize % 1024;
+        i += 1;
+    }
+    Seen {
+        bytes: upto,
+        ones: n,
+    }
+}
+
+// The set bits before an offset in the byte behind those seen.
+fn ones_at(edges: &[u8], t: &[u16], s: Seen, o: usize) -> usize
+    requires { ⌜ Counts (now edges) s × Tallies (now t) × (s .bytes ≡ o / 8) × (o ≤ 8 * length (now edges)) × (length (now edges) ≤ 65535) ⌝ }
+    ensures { λ r. ⌜ r ≡ ones (bitsIn (now (edges .entry)) o) ⌝ }
+{
+    let k = o % 8;
+    if k == 0 {
+        return s.ones;
+    }
+    let x = edges[o / 8] as usize;
+    s.ones + t[x >> (8 - k)] as usize % 1024
+}
+
+// The records of level 0.
+fn roots_of(b: usize) -> usize
+    ensures { λ r. ⌜ r ≡ roots b ⌝ }
+{
+    if b > 0 { 1 } else { 0 }
+}
+
+// Where each level ends; returns the number of members.
+fn level_ends(edges: &[u8], t: &[u16], m: usize, b: usize, ends: &mut [usize]) -> usize
+    requires { ⌜ Holds m b (now edges) × Tallies (now t) × (length (now edges) ≤ 65535) × (m ≤ length (now ends)) ⌝ }
+    ensures { λ r. ⌜ Shaped m b (now (edges .entry)) (now (ends .exit)) r ⌝ }
+{
+    let c = roots_of(b);
+    let mut seen = Seen { bytes: 0, ones: 0 };
+    let mut n = 0;
+    let mut d = 0;
+    while d < m {
+        let end = 2 * (c + n);
+        ends[d] = end;
+        seen = count_to(edges, t, seen, end / 8);
+        n = ones_at(edges, t, seen, end);
+        d += 1;
+    }
+    c + n - b / 2
+}
+
+// ---- Fields of numbers, each written behind its head one after another
+// Field 3: where each of m levels ends.
+fn put_levels(out: &mut [u8], m: usize, ends: &[usize])
+    requires { ⌜ (3 + levelBytes m ≤ length (now out)) × (m ≤ 256) × (m ≤ length (now ends)) ⌝ }
+    ensures { λ _. ⌜ now (out .exit) ≡ front (field 3 (bigEndians 4 (λ (d : ℕ). getD (now (ends .entry)) d 0) m)) (now (out .entry)) ⌝ }
+{
+    put_head(out, 3, 4 * m);
+    let mut d = 0;
+    while d < m {
+        let end = ends[d];
+        let at = 3 + 4 * d;
+        put4(&mut out[at..], end);
+        d += 1;
+    }
+}
+
+// Field 5: for each started block, the set bits before it.
+fn put_blocks(out: &mut [u8], edges: &[u8], t: &[u16], b: usize)
+    requires { ⌜ (3 + blockBytes b ≤ length (now out)) × (b ≤ 8 * length (now edges)) × (length (now edges) ≤ 65535) × Tallies (now t) ⌝ }
+    ensures { λ _. ⌜ now (out .exit) ≡ front (field 5 (bigEndians 8 (blockOnes (bitsIn (now (edges .entry)) b)) (started blockBits b))) (now (out .entry)) ⌝ }
+{
+    let blocks = (b + BLOCK_REST) / Encoding::BLOCK_BITS;
+    put_head(out, 5, 8 * blocks);
+    let mut seen = Seen { bytes: 0, ones: 0 };
+    let mut j = 0;
+    while j < blocks {
+        seen = count_to(edges, t, seen, BLOCK_BYTES * j);
+        let at = 3 + 8 * j;
+        put8(&mut out[at..], seen.ones);
+        j += 1;
+    }
+}
+
+// The set bits before a sub-block's block: those before the sub-block if it is its first, else the same as before.
+fn block_base(j: usize, base: usize, ones: usize) -> usize
+    ensures { λ r. ⌜ (j % 128 ≡ 0 → r ≡ ones) × ((j % 128 ≡ 0 → ⊥) → r ≡ base) ⌝ }
+{
+    if j % SUB_BLOCKS == 0 { ones } else { base }
+}
+
+// Field 6: for each started sub-block, the set bits of its block before it.
+fn put_sub_blocks(out: &mut [u8], edges: &[u8], t: &[u16], b: usize)
+    requires { ⌜ (3 + subBlockBytes b ≤ length (now out)) × (b ≤ 8 * length (now edges)) × (length (now edges) ≤ 65535) × Tallies (now t) ⌝ }
+    ensures { λ _. ⌜ now (out .exit) ≡ front (field 6 (bigEndians 2 (subBlockOnes (bitsIn (now (edges .entry)) b)) (started subBlockBits b))) (now (out .entry)) ⌝ }
+{
+    let subs = (b + SUB_BLOCK_REST) / Encoding::SUB_BLOCK_BITS;
+    put_head(out, 6, 2 * subs);
+    let mut seen = Seen { bytes: 0, ones: 0 };
+    let mut base = 0;
+    let mut j = 0;
+    while j < subs {
+        seen = count_to(edges, t, seen, SUB_BLOCK_BYTES * j);
+        let n = seen.ones;
+        base = block_base(j, base, n);
+        let at = 3 + 2 * j;
+        put2(&mut out[at..], n - base);
+        j += 1;
+    }
+}
+
+// Field 1: the width.
+fn put_width(out: &mut [u8], m: usize)
+    requires { ⌜ 5 ≤ length (now out) ⌝ }
+    ensures { λ _. ⌜ now (out .exit) ≡ front (field 1 (bigEndian 2 m)) (now (out .entry)) ⌝ }
+{
+    put_head(out, 1, 2);
+    put2(&mut out[3..], m);
+}
+
+// Field 2: the number of members.
+fn put_count(out: &mut [u8], n: usize)
+    requires { ⌜ 7 ≤ length (now out) ⌝ }
+    ensures { λ _. ⌜ now (out .exit) ≡ front (field 2 (bigEndian 4 n)) (now (out .entry)) ⌝ }
+{
+    put_head(out, 2, 4);
+    put4(&mut out[3..], n);
+}
+
+// Fields 1 to 3, each behind the one before it.
+fn put_shape(out: &mut [u8], m: usize, n: usize, ends: &[usize])
+    requires { ⌜ (15 + levelBytes m ≤ length (now out)) × (m ≤ 256) × (m ≤ length (now ends)) ⌝ }
+    ensures { λ _. ⌜ now (out .exit) ≡ front ((field 1 (bigEndian 2 m) ++ field 2 (bigEndian 4 n)) ++ field 3 (bigEndians 4 (λ (d : ℕ). getD (now (ends .entry)) d 0) m)) (now (out .entry)) ⌝ }
+{
+    put_width(out, m);
+    put_count(&mut out[5..], n);
+    put_levels(&mut out[12..], m, ends);
+}
+
+// Fields 4 to 6, each behind the one before it.
+fn put_edges(out: &mut [u8], edges: &[u8], t: &[u16], b: usize)
+    requires { ⌜ (9 + length (now edges) + blockBytes b + subBlockBytes b ≤ length (now out)) × (b ≤ 8 * length (now edges)) × (length (now edges) ≤ 65535) × Tallies (now t) ⌝ }
+    ensures { λ _. ⌜ now (out .exit) ≡ front ((field 4 (now (edges .entry)) ++ field 5 (bigEndians 8 (blockOnes (bitsIn (now (edges .entry)) b)) (started blockBits b))) ++ field 6 (bigEndians 2 (subBlockOnes (bitsIn (now (edges .entry)) b)) (started subBlockBits b))) (now (out .entry)) ⌝ }
+{
+    let at5 = 3 + edges.len();
+    let at6 = at5 + 3 + 8 * ((b + BLOCK_REST) / Encoding::BLOCK_BITS);
+    put_field(out, 4, edges);
+    put_blocks(&mut out[at5..], edges, t, b);
+    put_sub_blocks(&mut out[at6..], edges, t, b);
+}
+
+// ---- The writer
+// The length of what was written, or the refusal.
+pub enum Written {
+    Refused(u8),
+    Length(usize),
+}
+
+// The length of an encoding of width m with b edge bits.
+fn length_of(m: usize, b: usize) -> usize
+    requires { ⌜ (m ≤ 256) × (b ≤ 524280) ⌝ }
+    ensures { λ r. ⌜ r ≡ endOf m b ⌝ }
+{
+    24
+        + 4 * m
+        + (b + 7) / 8
+        + 8 * ((b + BLOCK_REST) / Encoding::BLOCK_BITS)
+        + 2 * ((b + SUB_BLOCK_REST) / Encoding::SUB_BLOCK_BITS)
+}
+
+fn no_ends() -> [usize; Encoding::MAX_WIDTH]
+    ensures { λ r. ⌜ length r ≡ 256 ⌝ }
+{
+    [0usize; Encoding::MAX_WIDTH]
+}
+
+// The encoding of the entry that edge bytes hold, at the front of the buffer, if it fits: nothing is written before that is known.
+pub fn write(m: usize, b: usize, edges: &[u8], t: &[u16], out: &mut [u8]) -> Written
+    requires { ⌜ Sealed m b (now edges) × Tallies (now t) ⌝ }
+    ensures { λ r. ⌜ writtenOutcome r (now (out .exit)) ≡ writes [] (held m b (now (edges .entry)) ∷ []) (now (out .entry) ∷ []) .outcome ⌝ }
+{
+    let n = length_of(m, b);
+    if out.len() < n {
+        return Written::Refused(loes::refusal::SHORT_BUFFER);
+    }
+    let mut ends = no_ends();
+    let count = level_ends(edges, t, m, b, &mut ends);
+    put_shape(out, m, count, &ends);
+    let at = 15 + 4 * m;
+    put_edges(&mut out[at..], edges, t, b);
+    Written::Length(n)
+}

@@ -1,0 +1,137 @@
+-- The pass over the whole edge bytes.
+use mathlib.Core.Path.{_≡_, refl, sym, ap, ap₂, _∙_}
+use Prim.Native.Nat.{ℕ, zero, suc, _+_, _-_, _*_, _/_, _%_, _≤_, _<_, min}
+use mathlib.Core.Bool.{Bool, true, _&&_}
+use mathlib.Core.List.{List}
+use native.Mathlib.Omega.{arith}
+use native.Mathlib.Decide.{decLe}
+use lib.ListN.{length, drop}
+use lib.Seq.{drop-drop}
+use Rattle.loes.specs.Limits.{blockBits, subBlockBits}
+use Rattle.loes.specs.Bytes.{Bytes, tabulate, started, numberAt, bitsIn}
+use Rattle.loes.specs.Edges.{ones, onesBefore}
+use Rattle.loes.specs.Encode.{blockOnes, subBlockOnes}
+use Rattle.loes.proofs.Tests.{both}
+use Rattle.bits.specs.Tables.{noneEmpty, tally}
+use Rattle.bits.proofs.Counts.{before-bits, ones-more, ones-bits-le}
+use Rattle.bits.proofs.Tally.{full-more, tally-good, tally-bad}
+use Rattle.encoding.specs.declared.Encoding.{Encoding}
+use Rattle.encoding.specs.Opened.{edgesAt, Room, Counted}
+use Rattle.encoding.specs.Agree.{EntriesAt, WholeRight}
+use Rattle.encoding.proofs.Opened.{room-at}
+use Rattle.encoding.proofs.Index.{sub-block-start}
+
+-- the bytes before sub-block j, as far as they are whole
+abbrev pub done : Encoding → ℕ → ℕ
+done e j = min (64 * j) (e .bits / 8)
+
+-- what is found before sub-block j
+pub record Going (l : Bytes) (e : Encoding) (j n : ℕ) : Type 0 where
+  pub count : n ≡ ones (bitsIn (drop (e .edges) l) (8 * done e j))
+  pub full : noneEmpty (bitsIn (drop (e .edges) l) (8 * done e j)) ≡ true
+  pub blocks : (i : ℕ) → i < j → numberAt 8 l (e .blocks + 8 * (i / 128)) ≡ blockOnes (edgesAt l e) (i / 128)
+  pub sub-blocks : (i : ℕ) → i < j → numberAt 2 l (e .«sub_blocks» + 2 * i) ≡ subBlockOnes (edgesAt l e) i
+
+pub below-next : (P : ℕ → Type 0) (d : ℕ) → ((j : ℕ) → j < d → P j) → P d → (j : ℕ) → j < d + 1 → P j
+below-next P d f p j h = elim (decLe (suc j) d) [ yes l ↦ f j l | no l ↦ let z : d ≡ j = omega arith in rw z at p ]
+
+sub-block-first : (x : List Bool) (j : ℕ) → j % 128 ≡ 0 → subBlockOnes x j ≡ 0
+unfolding subBlockOnes onesBefore ones
+sub-block-first x j h = rw h
+
+module _ (l : Bytes) (e : Encoding) where
+  pub going-start : Going l e 0 0
+  going-start =
+      let z : done e 0 ≡ 0 = omega arith in
+      record {
+        count = rw z (unfold bitsIn tabulate ones in refl);
+        full = rw z (unfold bitsIn tabulate noneEmpty in refl);
+        blocks = λ i h. absurd (omega arith);
+        sub-blocks = λ i h. absurd (omega arith);
+      }
+
+  pub entries-room : (j : ℕ) → Room l e → subBlockBits * j < e .bits
+      → (e .blocks + 8 * (j / 128) + 8 ≤ length l) × (e .«sub_blocks» + 2 * j + 2 ≤ length l)
+  entries-room j r h =
+      let o = room-at l e (512 * j) r h in
+      let zb : (512 * j) / 65536 ≡ j / 128 = omega arith in
+      let zs : (512 * j) / 512 ≡ j = omega arith in
+      (rw zb at (o .1), rw zs at (o .2))
+
+  module _ (j n : ℕ) (g : Going l e j n) where
+    pub count-le : n ≤ e .bits
+    count-le = omega (arith, g .count, ones-bits-le (drop (e .edges) l) (8 * done e j))
+
+    -- the set bits before sub-block j
+    count-at : subBlockBits * j < e .bits → blockOnes (edgesAt l e) (j / 128) + subBlockOnes (edgesAt l e) j ≡ n
+    unfolding edgesAt
+    count-at h =
+        let y : Bytes = drop (e .edges) l in
+        let z : 512 * j ≡ 8 * done e j = omega arith in
+        sub-block-start (bitsIn y (e .bits)) j ∙ before-bits y (e .bits) (512 * j) (omega arith) ∙ ap (λ m. ones (bitsIn y m)) z ∙ sym (g .count)
+
+    pub entries-of : subBlockBits * j < e .bits → Counted l e → EntriesAt l e j n
+    entries-of h c =
+        let x : List Bool = edgesAt l e in
+        let a = c .blocks (j / 128) (omega arith) in
+        let t = count-at h in
+        (ap₂ _+_ a (c .sub-blocks j h) ∙ t, λ z. omega (arith, a, t, sub-block-first x j z))
+
+    entries-are : subBlockBits * j < e .bits → EntriesAt l e j n
+        → (numberAt 8 l (e .blocks + 8 * (j / 128)) ≡ blockOnes (edgesAt l e) (j / 128)) × (numberAt 2 l (e .«sub_blocks» + 2 * j) ≡ subBlockOnes (edgesAt l e) j)
+    entries-are h x =
+        let t = count-at h in
+        let a : numberAt 8 l (e .blocks + 8 * (j / 128)) ≡ blockOnes (edgesAt l e) (j / 128) =
+        elim (decLe 1 (j % 128)) [
+          | yes p ↦ let z : (j - 1) / 128 ≡ j / 128 = omega arith in rw z at (g .blocks (j - 1) (omega arith))
+          | no p ↦ let z : j % 128 ≡ 0 = omega arith in omega (arith, x .1 z, t, sub-block-first (edgesAt l e) j z)
+        ] in
+        (a, omega (arith, a, t, x .0))
+
+    -- the bytes of sub-block j
+    module _ (upto k : ℕ) (h : subBlockBits * j < e .bits) (u : upto ≡ min (64 * j + 64) (e .bits / 8))
+        (q : k ≡ tally (drop (e .edges + 64 * j) l) (e .edges + upto - (e .edges + 64 * j))) where
+      tally-here : k ≡ tally (drop (64 * j) (drop (e .edges) l)) (upto - 64 * j)
+      tally-here =
+          let z : e .edges + upto - (e .edges + 64 * j) ≡ upto - 64 * j = omega arith in
+          q ∙ ap₂ tally (sym (drop-drop (64 * j) (e .edges) l)) z
+
+      pub tally-wrong : 1024 ≤ k → WholeRight l e → ⊥
+      tally-wrong b w =
+          let y : Bytes = drop (e .edges) l in
+          let z : 8 * (e .bits / 8) ≡ 8 * upto + 8 * (e .bits / 8 - upto) = omega (arith, u) in
+          let v : 8 * upto ≡ 8 * (64 * j) + 8 * (upto - 64 * j) = omega (arith, u) in
+          let f : noneEmpty (bitsIn y (8 * upto)) ≡ true = both (noneEmpty (bitsIn y (8 * upto))) (noneEmpty (bitsIn (drop upto y) (8 * (e .bits / 8 - upto)))) (sym (ap (λ m. noneEmpty (bitsIn y m)) z ∙ full-more y upto (8 * (e .bits / 8 - upto))) ∙ w .1) .0 in
+          let s : noneEmpty (bitsIn (drop (64 * j) y) (8 * (upto - 64 * j))) ≡ true =
+          both (noneEmpty (bitsIn y (8 * (64 * j)))) (noneEmpty (bitsIn (drop (64 * j) y) (8 * (upto - 64 * j)))) (sym (ap (λ m. noneEmpty (bitsIn y m)) v ∙ full-more y (64 * j) (8 * (upto - 64 * j))) ∙ f) .1 in
+          omega (arith, tally-here, tally-bad (drop (64 * j) y) (upto - 64 * j) (omega (arith, u)) s)
+
+      pub going-next : k < 1024 → EntriesAt l e j n → Going l e (j + 1) (n + k)
+      going-next b x =
+          let y : Bytes = drop (e .edges) l in
+          let d : done e j ≡ 64 * j = omega arith in
+          let v : 8 * done e (j + 1) ≡ 8 * (64 * j) + 8 * (upto - 64 * j) = omega (arith, u) in
+          let t = tally-good (drop (64 * j) y) (upto - 64 * j) (omega (arith, tally-here, b)) in
+          let c : n ≡ ones (bitsIn y (8 * (64 * j))) = rw d at (g .count) in
+          let f : noneEmpty (bitsIn y (8 * (64 * j))) ≡ true = rw d at (g .full) in
+          let r = entries-are h x in
+          record {
+            count = omega (arith, c, tally-here, t .1, ap (λ m. ones (bitsIn y m)) v, ones-more y (64 * j) (8 * (upto - 64 * j)));
+            full = ap (λ m. noneEmpty (bitsIn y m)) v ∙ full-more y (64 * j) (8 * (upto - 64 * j)) ∙ ap₂ _&&_ f (t .0);
+            blocks = below-next (λ i. numberAt 8 l (e .blocks + 8 * (i / 128)) ≡ blockOnes (edgesAt l e) (i / 128)) j (g .blocks) (r .0);
+            sub-blocks = below-next (λ i. numberAt 2 l (e .«sub_blocks» + 2 * i) ≡ subBlockOnes (edgesAt l e) i) j (g .sub-blocks) (r .1);
+          }
+
+    pub going-end : started subBlockBits (e .bits) ≤ j → WholeRight l e × (n ≡ ones (bitsIn (drop (e .edges) l) (8 * (e .bits / 8))))
+    unfolding started
+    going-end h =
+        let z : done e j ≡ e .bits / 8 = omega arith in (
+          (
+            record {
+              blocks = λ i q. let v : (128 * i) / 128 ≡ i = omega arith in rw v at (g .blocks (128 * i) (omega arith));
+              sub-blocks = λ i q. g .sub-blocks i (omega arith);
+            },
+            rw z at (g .full),
+          ),
+          rw z at (g .count),
+        )

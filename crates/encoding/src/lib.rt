@@ -1,0 +1,447 @@
+// An opened encoding: reading the fields, the full check, and rank behind it.
+ghost use Prim.Native.Nat.{_+_, _-_, _*_, _^_, _<_, _≤_, min};
+ghost use mathlib.Core.Path.{_≡_};
+ghost use mathlib.Core.Bool.{false};
+ghost use lib.ListN.{length, getD};
+ghost use Rattle.loes.specs.Limits.{maxWidth, maxEdges, subBlockBits};
+ghost use Rattle.loes.specs.Bytes.{started, sameNumbers};
+ghost use Rattle.loes.specs.Edges.{onesBefore};
+ghost use Rattle.loes.specs.Entry.{edgesOf};
+ghost use Rattle.loes.specs.Encode.{encode};
+ghost use Rattle.loes.specs.Refusals.{firstOf};
+ghost use Rattle.loes.specs.Read.{start4, entryIn, fieldTests, headTests, tailTests};
+ghost use Rattle.loes.specs.Calls.{openCall, rankCall};
+ghost use Rattle.loes.proofs.Ends.{roots};
+ghost use Rattle.bits.specs.Tables.{Tallies};
+ghost use Rattle.encoding.specs.Opened.{Opens, Placed, Room, Counted, edgesAt};
+ghost use Rattle.encoding.specs.Fields.{refusalOf, bodyBytes, laidBy, Fields, Parsed, Checks};
+ghost use Rattle.encoding.specs.Agree.{Tells, EntriesAt, Whole, Last, Levelled};
+ghost use Rattle.encoding.specs.Answers.{toldOutcome, rankedOutcome};
+use bits::EdgeOffset;
+
+// The numbers of an encoding, and where the bodies of fields 4 to 6 begin.
+pub struct Encoding {
+    // m
+    pub width: usize,
+    // n
+    pub count: usize,
+    // b
+    pub bits: usize,
+    pub edges: usize,
+    pub blocks: usize,
+    pub sub_blocks: usize,
+}
+
+// Refused, with the number of a refusal.
+const TRUNCATED: u8 = 1;
+
+const WRONG_TAG: u8 = 2;
+
+const WRONG_LENGTH: u8 = 3;
+
+const BAD_WIDTH: u8 = 4;
+
+const TOO_LARGE: u8 = 5;
+
+const TRAILING_BYTES: u8 = 6;
+
+const NOT_AN_ENCODING: u8 = 7;
+
+const OUT_OF_RANGE: u8 = 9;
+
+// The bytes of a field's tag and length.
+const HEAD: usize = 3;
+// Where the bodies of fields 2 and 3 begin; that of field 1 begins behind its head.
+const COUNT: usize = 8;
+
+const LEVELS: usize = 15;
+// The edge bytes of a sub-block.
+const SUB_BLOCK_BYTES: usize = Encoding::SUB_BLOCK_BITS / 8;
+// The sub-blocks of a block.
+const SUB_BLOCKS: usize = Encoding::BLOCK_BITS / Encoding::SUB_BLOCK_BITS;
+// What a tally has more for a byte with an empty record.
+const EMPTY_RECORD: usize = 1024;
+
+// How many parts of a size are started by n.
+fn started_by(n: usize, size: usize) -> usize
+    requires { ⌜ (n ≤ maxEdges) × (0 < size) × (size ≤ maxEdges) ⌝ }
+    ensures { λ r. ⌜ (r ≡ started size n) × (r < n + size) ⌝ }
+{
+    (n + (size - 1)) / size
+}
+
+impl Encoding {
+    // The greatest width of a key, in bits.
+    pub const MAX_WIDTH: usize = 256;
+    // The most bits that an edge sequence may have.
+    pub const MAX_EDGES: usize = 524_280;
+    // The edge bits of a block and of a sub-block.
+    pub const BLOCK_BITS: usize = 65_536;
+
+    pub const SUB_BLOCK_BITS: usize = 512;
+
+    // Of width m, n keys and b edge bits: each field begins behind the one before it.
+    pub fn new(width: usize, count: usize, bits: usize) -> Encoding
+        requires { ⌜ (width ≤ maxWidth) × (bits ≤ maxEdges) ⌝ }
+        ensures { λ r. ⌜ Placed width count bits r ⌝ }
+    {
+        let edges = LEVELS + 4 * width + HEAD;
+        let blocks = edges + started_by(bits, 8) + HEAD;
+        let sub_blocks = blocks + 8 * started_by(bits, Encoding::BLOCK_BITS) + HEAD;
+        Encoding {
+            width,
+            count,
+            bits,
+            edges,
+            blocks,
+            sub_blocks,
+        }
+    }
+}
+
+// ---- Reading the fields
+// What a tag says: the length laid down for its field's body, or the refusal.
+pub enum Laid {
+    Length(usize),
+    Refused(u8),
+}
+
+fn laid_by(tag: u8, width: usize, bits: usize) -> Laid
+    requires { ⌜ (width ≤ maxWidth) × (bits ≤ maxEdges) ⌝ }
+    ensures { λ r. ⌜ r ≡ laidBy tag width bits ⌝ }
+{
+    match tag {
+        1 => Laid::Length(2),
+        2 => Laid::Length(4),
+        3 => Laid::Length(4 * width),
+        4 => Laid::Length(started_by(bits, 8)),
+        5 => Laid::Length(8 * started_by(bits, Encoding::BLOCK_BITS)),
+        6 => Laid::Length(2 * started_by(bits, Encoding::SUB_BLOCK_BITS)),
+        0 | 7..=255 => Laid::Refused(WRONG_TAG),
+    }
+}
+
+// The first refusal of the field whose turn it is and which begins at a place, or 0: 1 for its head, 2, 3, 1 for its body.
+fn field_refusal(l: &[u8], at: usize, turn: u8, width: usize, bits: usize) -> u8
+    requires { ⌜ (at ≤ length (now l)) × (0 < turn) × (turn < 7) × (width ≤ maxWidth) × (bits ≤ maxEdges) ⌝ }
+    ensures { λ r. ⌜ refusalOf r ≡ firstOf (fieldTests turn (bodyBytes turn width bits) (now (l .entry)) at) ⌝ }
+{
+    let left = l.len() - at;
+    if left < HEAD {
+        return TRUNCATED;
+    }
+    let tag = l[at];
+    match laid_by(tag, width, bits) {
+        Laid::Refused(k) => k,
+        Laid::Length(n) => {
+            if tag != turn {
+                return WRONG_TAG;
+            }
+            if bits::number2(l, at + 1) != n {
+                return WRONG_LENGTH;
+            }
+            if left - HEAD < n {
+                return TRUNCATED;
+            }
+            0
+        }
+    }
+}
+
+// The first refusal of fields 1 to 3, or 0: 4 follows field 1 and 5 follows field 3.
+fn head_refusal(l: &[u8]) -> u8
+    ensures { λ r. ⌜ refusalOf r ≡ firstOf (headTests (now (l .entry))) ⌝ }
+{
+    let first = field_refusal(l, 0, 1, 0, 0);
+    if first != 0 {
+        return first;
+    }
+    let width = bits::number2(l, HEAD);
+    if width == 0 {
+        return BAD_WIDTH;
+    }
+    if Encoding::MAX_WIDTH < width {
+        return BAD_WIDTH;
+    }
+    let second = field_refusal(l, COUNT - HEAD, 2, width, 0);
+    if second != 0 {
+        return second;
+    }
+    let third = field_refusal(l, LEVELS - HEAD, 3, width, 0);
+    if third != 0 {
+        return third;
+    }
+    if Encoding::MAX_EDGES < bits::number4(l, LEVELS + 4 * (width - 1)) {
+        return TOO_LARGE;
+    }
+    0
+}
+
+// The first refusal of fields 4 to 6, or 0; then 6.
+fn tail_refusal(l: &[u8], e: Encoding) -> u8
+    requires { ⌜ Placed (e .width) (e .count) (e .bits) e × (e .width ≤ maxWidth) × (e .bits ≤ maxEdges) × (start4 (e .width) ≤ length (now l)) ⌝ }
+    ensures { λ r. ⌜ refusalOf r ≡ firstOf (tailTests (e .width) (e .bits) (now (l .entry))) ⌝ }
+{
+    let fourth = field_refusal(l, e.edges - HEAD, 4, e.width, e.bits);
+    if fourth != 0 {
+        return fourth;
+    }
+    let fifth = field_refusal(l, e.blocks - HEAD, 5, e.width, e.bits);
+    if fifth != 0 {
+        return fifth;
+    }
+    let sixth = field_refusal(l, e.sub_blocks - HEAD, 6, e.width, e.bits);
+    if sixth != 0 {
+        return sixth;
+    }
+    if e.sub_blocks + 2 * started_by(e.bits, Encoding::SUB_BLOCK_BITS) < l.len() {
+        return TRAILING_BYTES;
+    }
+    0
+}
+
+// An opened encoding, or the refusal.
+pub enum Checked {
+    Refused(u8),
+    Opened(Encoding),
+}
+
+// Every test before 7.
+fn parse(l: &[u8]) -> Checked
+    ensures { λ r. ⌜ Parsed (now (l .entry)) r ⌝ }
+{
+    let head = head_refusal(l);
+    if head != 0 {
+        return Checked::Refused(head);
+    }
+    let width = bits::number2(l, HEAD);
+    let bits = bits::number4(l, LEVELS + 4 * (width - 1));
+    let e = Encoding::new(width, bits::number4(l, COUNT), bits);
+    let tail = tail_refusal(l, e);
+    if tail != 0 {
+        return Checked::Refused(tail);
+    }
+    Checked::Opened(e)
+}
+
+// ---- Rank
+// The set bits before an offset, by the index fields.
+fn indexed_ones(l: &[u8], t: &[u16], e: Encoding, o: EdgeOffset) -> usize
+    requires { ⌜ Room (now l) e × Counted (now l) e × Tallies (now t) × (o .0 ≤ e .bits) ⌝ }
+    ensures { λ r. ⌜ r ≡ onesBefore (edgesAt (now (l .entry)) e) (o .0) ⌝ }
+{
+    let n = o.0;
+    if n == 0 {
+        return 0;
+    }
+    let last = n - 1;
+    let sub = last / Encoding::SUB_BLOCK_BITS;
+    let at = e.edges + last / 8;
+    let block = bits::number8(l, e.blocks + 8 * (last / Encoding::BLOCK_BITS));
+    let sub_block = bits::number2(l, e.sub_blocks + 2 * sub);
+    let whole = bits::tally_bytes(l, t, e.edges + SUB_BLOCK_BYTES * sub, at);
+    let x = (l[at] as usize) >> (7 - last % 8);
+    block + sub_block + whole % EMPTY_RECORD + (t[x] as usize) % EMPTY_RECORD
+}
+
+// ---- The check of 7
+// The set bits of edge bytes that are right so far.
+pub enum Tallied {
+    Wrong,
+    Ones(usize),
+}
+
+fn lesser(x: usize, y: usize) -> usize
+    ensures { λ r. ⌜ r ≡ min x y ⌝ }
+{
+    if x < y { x } else { y }
+}
+
+// The records of level 0: one, or none in the empty set.
+fn roots_of(bits: usize) -> usize
+    ensures { λ r. ⌜ (r ≡ roots bits) × (r ≤ 1) ⌝ }
+{
+    if 0 < bits { 1 } else { 0 }
+}
+
+// Whether the entries of sub-block j and of its block fit n set bits before it.
+fn entries_agree(l: &[u8], e: Encoding, j: usize, n: usize) -> bool
+    requires { ⌜ Room (now l) e × (subBlockBits * j < e .bits) ⌝ }
+    ensures { λ r. ⌜ Tells r (EntriesAt (now (l .entry)) e j n) ⌝ }
+{
+    let block = bits::number8(l, e.blocks + 8 * (j / SUB_BLOCKS));
+    if n < block {
+        return false;
+    }
+    if bits::number2(l, e.sub_blocks + 2 * j) != n - block {
+        return false;
+    }
+    if j % SUB_BLOCKS == 0 {
+        return n == block;
+    }
+    true
+}
+
+// One pass over the whole edge bytes, sub-block by sub-block: no record is empty, and both index fields are right.
+fn whole_ones(l: &[u8], t: &[u16], e: Encoding) -> Tallied
+    requires { ⌜ Room (now l) e × Tallies (now t) ⌝ }
+    ensures { λ r. ⌜ Whole (now (l .entry)) e r ⌝ }
+{
+    let edges = e.edges;
+    let whole = e.bits / 8;
+    let end = started_by(e.bits, Encoding::SUB_BLOCK_BITS);
+    let mut n = 0;
+    let mut j = 0;
+    while j < end {
+        if !entries_agree(l, e, j, n) {
+            return Tallied::Wrong;
+        }
+        let from = SUB_BLOCK_BYTES * j;
+        let upto = lesser(from + SUB_BLOCK_BYTES, whole);
+        let k = bits::tally_bytes(l, t, edges + from, edges + upto);
+        if k >= EMPTY_RECORD {
+            return Tallied::Wrong;
+        }
+        n += k;
+        j += 1;
+    }
+    Tallied::Ones(n)
+}
+
+// What the lowest of the used bits of a byte counts.
+fn lowest(used: usize) -> usize
+    requires { ⌜ used ≤ 8 ⌝ }
+    ensures { λ r. ⌜ (r ≡ 2 ^ (8 - used)) × (0 < r) × (r ≤ 256) ⌝ }
+{
+    1usize << (8 - used)
+}
+
+// The last byte, if it is not whole: its left-over bits are clear, and with them set no record is empty.
+fn last_ones(l: &[u8], t: &[u16], e: Encoding) -> Tallied
+    requires { ⌜ Room (now l) e × Tallies (now t) ⌝ }
+    ensures { λ r. ⌜ Last (now (l .entry)) e r ⌝ }
+{
+    let used = e.bits % 8;
+    if used == 0 {
+        return Tallied::Ones(0);
+    }
+    let at = e.edges + e.bits / 8;
+    let x = l[at] as usize;
+    let unit = lowest(used);
+    if x % unit != 0 {
+        return Tallied::Wrong;
+    }
+    let k = t[x + (unit - 1)] as usize;
+    if k >= EMPTY_RECORD {
+        return Tallied::Wrong;
+    }
+    Tallied::Ones(k - (8 - used))
+}
+
+// Whether field 3 has the ends of the levels: each is twice the records so far, the roots and one for each set bit before the level.
+fn levels_agree(l: &[u8], t: &[u16], e: Encoding) -> bool
+    requires { ⌜ Room (now l) e × Counted (now l) e × Tallies (now t) ⌝ }
+    ensures { λ r. ⌜ Tells r (Levelled (now (l .entry)) e) ⌝ }
+{
+    let width = e.width;
+    let roots = roots_of(e.bits);
+    let mut n = 0;
+    let mut d = 0;
+    while d < width {
+        let end = 2 * (roots + n);
+        if bits::number4(l, LEVELS + 4 * d) != end {
+            return false;
+        }
+        n = indexed_ones(l, t, e, EdgeOffset(lesser(end, e.bits)));
+        d += 1;
+    }
+    true
+}
+
+// Whether the bytes are the encoding of the set that following their edges gives.
+fn agrees(l: &[u8], t: &[u16], e: Encoding) -> bool
+    requires { ⌜ Fields (now l) e × Tallies (now t) ⌝ }
+    ensures { λ r. ⌜ r ≡ sameNumbers (now (l .entry)) (encode (entryIn (now (l .entry)))) ⌝ }
+{
+    let Tallied::Ones(n) = whole_ones(l, t, e) else {
+        return false;
+    };
+    let Tallied::Ones(k) = last_ones(l, t, e) else {
+        return false;
+    };
+    if !levels_agree(l, t, e) {
+        return false;
+    }
+    e.count + e.bits / 2 == roots_of(e.bits) + n + k
+}
+
+// The full check behind every public call.
+pub fn check(l: &[u8], t: &[u16]) -> Checked
+    requires { ⌜ Tallies (now t) ⌝ }
+    ensures { λ r. ⌜ Checks (now (l .entry)) r ⌝ }
+{
+    match parse(l) {
+        Checked::Refused(k) => Checked::Refused(k),
+        Checked::Opened(e) => {
+            if agrees(l, t, e) {
+                return Checked::Opened(e);
+            }
+            Checked::Refused(NOT_AN_ENCODING)
+        }
+    }
+}
+
+// ---- Behind the check
+// The set bits before an offset, 0 to b.
+pub fn ones_before(l: &[u8], t: &[u16], e: Encoding, o: EdgeOffset) -> usize
+    requires { ⌜ Opens (now l) e × Tallies (now t) × (o .0 ≤ e .bits) ⌝ }
+    ensures { λ r. ⌜ r ≡ onesBefore (edgesOf (entryIn (now (l .entry)))) (o .0) ⌝ }
+{
+    indexed_ones(l, t, e, o)
+}
+
+// Whether the edge at an offset is set.
+pub fn edge_at(l: &[u8], e: Encoding, o: EdgeOffset) -> bool
+    requires { ⌜ Opens (now l) e × (o .0 < e .bits) ⌝ }
+    ensures { λ r. ⌜ r ≡ getD (edgesOf (entryIn (now (l .entry)))) (o .0) false ⌝ }
+{
+    bits::bit_at(l, 8 * e.edges + o.0)
+}
+
+// ---- Public calls
+// m, n and b, or the refusal.
+pub enum Told {
+    Refused(u8),
+    Numbers(usize, usize, usize),
+}
+
+pub fn open(l: &[u8]) -> Told
+    ensures { λ r. ⌜ toldOutcome r ≡ openCall (now (l .entry)) ⌝ }
+{
+    let t = bits::tallies();
+    match check(l, &t) {
+        Checked::Refused(k) => Told::Refused(k),
+        Checked::Opened(e) => Told::Numbers(e.width, e.count, e.bits),
+    }
+}
+
+// The rank of an offset, or the refusal.
+pub enum Ranked {
+    Refused(u8),
+    Rank(usize),
+}
+
+pub fn rank(l: &[u8], o: EdgeOffset) -> Ranked
+    ensures { λ r. ⌜ rankedOutcome r ≡ rankCall (now (l .entry)) (o .0) ⌝ }
+{
+    let t = bits::tallies();
+    match check(l, &t) {
+        Checked::Refused(k) => Ranked::Refused(k),
+        Checked::Opened(e) => {
+            if e.bits <= o.0 {
+                return Ranked::Refused(OUT_OF_RANGE);
+            }
+            Ranked::Rank(ones_before(l, &t, e, EdgeOffset(o.0 + 1)))
+        }
+    }
+}

@@ -1,0 +1,180 @@
+-- From two checks to a pair, and from the edges of a join to the call.
+use mathlib.Core.Path.{_≡_, refl, sym, ap, ap₂, _∙_, subst}
+use Prim.Native.Nat.{ℕ, _+_, _-_, _/_, _≤_, _<_}
+use mathlib.Core.Bool.{Bool, true, false, not, cond}
+use mathlib.Core.List.{List, [], _∷_}
+use native.Mathlib.Omega.{arith}
+use lib.ListN.{length, take, drop, take-append-drop, length-drop}
+use lib.Seq.{length-take-le, take-all}
+use lib.Dec.{eqb}
+use Rattle.loes.specs.Limits.{maxEdges}
+use Rattle.loes.specs.Bytes.{Bytes, started, packBits, bitsIn}
+use Rattle.loes.specs.Keys.{Key, either, without}
+use Rattle.loes.specs.Entry.{Entry, edgesOf, edgeCount, withSet, Valid}
+use Rattle.loes.specs.Refusals.{twoWidths, test, firstOf}
+use Rattle.loes.specs.Read.{rejected, opened, read, entryIn}
+use Rattle.loes.specs.Held.{held, Holds}
+use Rattle.loes.specs.Model.{Outcome, refusal, joinTests, writes}
+use Rattle.loes.specs.Calls.{reading, afterReading}
+use Rattle.loes.proofs.Tests.{eq-yes, yes-eq, both}
+use Rattle.loes.proofs.Reading.{bits-front, followed-sized}
+use Rattle.loes.proofs.Writes.{writes-refused, writes-on}
+use Rattle.encoding.specs.Opened.{Opens}
+use Rattle.encoding.specs.Fields.{Checks}
+use Rattle.encoding.proofs.Opened.{opens-valid, opens-held, opens-holds}
+use Rattle.encoding.specs.declared.Encoding.{Encoding}
+use Rattle.encoding.specs.declared.Checked.{Checked}
+use Rattle.encoding.specs.declared.Checked.the-variants as checked
+use Rattle.merge.specs.Records.{Written}
+use Rattle.build.specs.Writing.{Sealed}
+use Rattle.bits.proofs.Counts.{length-bitsIn}
+use Rattle.merge.proofs.Sealing.{written-bits, written-room}
+use Rattle.join.specs.declared.Join.{Join}
+use Rattle.join.specs.declared.Join.the-variants as join
+use Rattle.join.specs.declared.Pair.the-variants as pair
+use Rattle.join.specs.Joining.{joinOf, joinCall, pairOf, Both, Joined}
+
+-- ---- Two checks
+reading-rejected : (l : Bytes) (bufs : List Bytes) (next : Entry → Outcome) (k : ℕ) → read l ≡ rejected k → reading l bufs next ≡ refusal k bufs .outcome
+unfolding reading afterReading
+reading-rejected l bufs next k h = rw h
+
+reading-opened : (l : Bytes) (bufs : List Bytes) (next : Entry → Outcome) (e : Entry) → read l ≡ opened e → reading l bufs next ≡ next e
+unfolding reading afterReading
+reading-opened l bufs next e h = rw h
+
+-- on two encodings, what is left of the call
+call-opened : (op : Entry → Entry → Entry) (a b out : Bytes) → read a ≡ opened (entryIn a) → read b ≡ opened (entryIn b)
+    → joinCall op a b out ≡ writes (joinTests (entryIn a) (entryIn b)) (op (entryIn a) (entryIn b) ∷ []) (out ∷ []) .outcome
+unfolding joinCall
+call-opened op a b out h g = reading-opened a (out ∷ []) _ (entryIn a) h ∙ reading-opened b (out ∷ []) _ (entryIn b) g
+
+pub both-is : (a b : Bytes) (first second : Checked) → Checks a first → Checks b second → Both a b (pairOf first second)
+unfolding joinCall
+both-is a b (checked.Refused k) s h g = λ op out. reading-rejected a (out ∷ []) _ k h
+both-is a b (checked.Opened e) (checked.Refused k) h g = λ op out. reading-opened a (out ∷ []) _ (entryIn a) (h .reads) ∙ reading-rejected b (out ∷ []) _ k g
+both-is a b (checked.Opened e) (checked.Opened f) h g = go (eqb (e .width) (f .width)) refl
+  where
+    two : (op : Entry → Entry → Entry) (out : Bytes) → eqb (entryIn a .width) (entryIn b .width) ≡ false → joinCall op a b out ≡ refusal twoWidths (out ∷ []) .outcome
+    two op out z =
+        call-opened op a b out (h .reads) (g .reads)
+        ∙ ap (λ x. x .outcome) (writes-refused (joinTests (entryIn a) (entryIn b)) _ (out ∷ []) twoWidths (unfold joinTests firstOf test in rw z))
+
+    go : (w : Bool) → eqb (e .width) (f .width) ≡ w → Both a b (cond w (pair.Opened e f) (pair.Refused twoWidths))
+    go true z = (h, g, yes-eq (e .width) (f .width) z)
+    go false z = λ op out. two op out (sym (ap₂ eqb (h .width) (g .width)) ∙ z)
+
+-- ---- The edges of a join
+-- the entry asked for has keys of its width only
+join-sized : (kind : Join) (e f : Entry) → Valid e → Valid f → e .width ≡ f .width → (k : Key) → joinOf kind e f .set k ≡ true → length k ≡ e .width
+join-sized join.Union e f v w z k = unfold withSet either in go (e .set k) refl
+  where
+    go : (b : Bool) → e .set k ≡ b → either (e .set) (f .set) k ≡ true → length k ≡ e .width
+    go true h q = v .sized k h
+    go false h q = w .sized k (unfold either in rw h at q) ∙ sym z
+join-sized join.Difference e f v w z k = λ q. v .sized k (both (e .set k) (not (f .set k)) (unfold withSet without in q) .0)
+
+join-width : (kind : Join) (e f : Entry) → joinOf kind e f .width ≡ e .width
+unfolding withSet
+join-width join.Union e f = refl
+join-width join.Difference e f = refl
+
+module _ (x : Entry) (positive : 0 < x .width) (sized : (k : Key) → x .set k ≡ true → length k ≡ x .width) (old new : Bytes) (k : ℕ) (w : Written (edgesOf x) old new k) where
+  pub join-held : held (x .width) k new ≡ x
+  unfolding held
+  join-held = rw (written-bits w) (followed-sized x positive sized)
+
+  pub join-joined : x .width ≤ 256 → Joined (x .width) k new
+  join-joined narrow =
+      record {
+        positive = positive;
+        narrow = narrow;
+        room = written-room w;
+        same = ap edgesOf join-held ∙ sym (written-bits w);
+        whole = w .bytes ∙ ap packBits (sym (written-bits w));
+      }
+
+-- ---- What the writer is given
+module _ (m k : ℕ) (l : Bytes) (j : Joined m k l) where
+  pub joined-bits : edgeCount (held m k l) ≡ k
+  unfolding edgeCount
+  joined-bits = ap length (j .same) ∙ length-bitsIn l k
+
+  pub cut-fits : (k + 7) / 8 ≤ length l
+  cut-fits = omega (arith, j .room)
+
+  cut-long : length (take ((k + 7) / 8) l) ≡ (k + 7) / 8
+  cut-long = length-take-le ((k + 7) / 8) l cut-fits
+
+  cut-bits : bitsIn (take ((k + 7) / 8) l) k ≡ bitsIn l k
+  cut-bits =
+      sym (ap (λ x. bitsIn x k) (sym (take-append-drop ((k + 7) / 8) l)) ∙ bits-front (take ((k + 7) / 8) l) (drop ((k + 7) / 8) l) k (omega (arith, cut-long)))
+
+  pub cut-held : held m k (take ((k + 7) / 8) l) ≡ held m k l
+  unfolding held
+  cut-held = rw cut-bits
+
+  pub cut-sealed : k ≤ maxEdges → Sealed m k (take ((k + 7) / 8) l)
+  unfolding started
+  cut-sealed few =
+      record {
+        holds = record { positive = j .positive; narrow = j .narrow; few = few; room = omega (arith, cut-long); same = ap edgesOf cut-held ∙ j .same ∙ sym cut-bits };
+        whole = ap packBits cut-bits ∙ sym (j .whole);
+      }
+
+-- ---- The whole call on two encodings of one width
+tail-is : (l : Bytes) (n : ℕ) → take (length l - n) (drop n l) ≡ drop n l
+tail-is l n = take-all (length l - n) (drop n l) (omega (arith, length-drop n l))
+
+module _ (kind : Join) (a b : Bytes) (e f : Encoding) (p : Opens a e) (q : Opens b f) (w : e .width ≡ f .width) where
+  abbrev first : Bytes
+  first = take (length a - e .edges) (drop (e .edges) a)
+
+  abbrev second : Bytes
+  second = take (length b - f .edges) (drop (f .edges) b)
+
+  pub first-holds : Holds (e .width) (e .bits) first
+  first-holds = rw (tail-is a (e .edges)) (opens-holds a e p)
+
+  pub second-holds : Holds (e .width) (f .bits) second
+  second-holds = rw (tail-is b (f .edges), w) (opens-holds b f q)
+
+  first-held : held (e .width) (e .bits) first ≡ entryIn a
+  first-held = rw (tail-is a (e .edges)) (opens-held a e p)
+
+  second-held : held (e .width) (f .bits) second ≡ entryIn b
+  second-held = rw (tail-is b (f .edges), w) (opens-held b f q)
+
+  same-width : entryIn a .width ≡ entryIn b .width
+  same-width = sym (p .width) ∙ w ∙ q .width
+
+  abbrev asked : Entry
+  asked = joinOf kind (entryIn a) (entryIn b)
+
+  asked-width : asked .width ≡ e .width
+  asked-width = join-width kind (entryIn a) (entryIn b) ∙ sym (p .width)
+
+  module _ (old new : Bytes) (k : ℕ) (r : Written (edgesOf (joinOf kind (held (e .width) (e .bits) first) (held (e .width) (f .bits) second))) old new k) where
+    made : Written (edgesOf asked) old new k
+    made = subst (λ x. Written (edgesOf x) old new k) (ap₂ (joinOf kind) first-held second-held) r
+
+    valid : Valid (entryIn a)
+    valid = opens-valid a e p
+
+    positive : 0 < asked .width
+    positive = rw (join-width kind (entryIn a) (entryIn b)) (valid .positive)
+
+    sized : (x : Key) → asked .set x ≡ true → length x ≡ asked .width
+    sized x h = join-sized kind (entryIn a) (entryIn b) valid (opens-valid b f q) same-width x h ∙ sym (join-width kind (entryIn a) (entryIn b))
+
+    pub joined : Joined (e .width) k new
+    joined = rw (← asked-width) (join-joined asked positive sized old new k made (omega (arith, join-width kind (entryIn a) (entryIn b), valid .narrow)))
+
+    held-asked : held (e .width) k new ≡ asked
+    held-asked = rw (← asked-width) (join-held asked positive sized old new k made)
+
+    pub joined-call : (out : Bytes) → writes [] (held (e .width) k new ∷ []) (out ∷ []) .outcome ≡ joinCall (joinOf kind) a b out
+    joined-call out =
+        ap (λ x. writes [] (x ∷ []) (out ∷ []) .outcome) held-asked
+        ∙ ap (λ x. x .outcome) (sym (writes-on (joinTests (entryIn a) (entryIn b)) (asked ∷ []) (out ∷ []) (unfold joinTests firstOf test in rw (same-width, eq-yes (entryIn b .width)))))
+        ∙ sym (call-opened (joinOf kind) a b out (p .reads) (q .reads))

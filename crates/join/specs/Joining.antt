@@ -1,0 +1,50 @@
+-- Union and difference as one call, and what is known on its way.
+use mathlib.Core.Path.{_≡_}
+use Prim.Native.Nat.{ℕ, _*_, _<_, _≤_}
+use mathlib.Core.Bool.{cond}
+use mathlib.Core.List.{[], _∷_}
+use lib.ListN.{length, take}
+use lib.Dec.{eqb}
+use Rattle.loes.specs.Limits.{maxWidth}
+use Rattle.loes.specs.Bytes.{Bytes, started, packBits, bitsIn}
+use Rattle.loes.specs.Keys.{either, without}
+use Rattle.loes.specs.Entry.{Entry, edgesOf, withSet}
+use Rattle.loes.specs.Refusals.{twoWidths}
+use Rattle.loes.specs.Held.{held}
+use Rattle.loes.specs.Model.{Outcome, refusal, joinTests, writes}
+use Rattle.loes.specs.Calls.{reading}
+use Rattle.encoding.specs.Opened.{Opens}
+use Rattle.encoding.specs.declared.Checked.{Checked}
+use Rattle.encoding.specs.declared.Checked.the-variants as checked
+use Rattle.join.specs.declared.Join.{Join}
+use Rattle.join.specs.declared.Join.the-variants as join
+use Rattle.join.specs.declared.Pair.{Pair}
+use Rattle.join.specs.declared.Pair.the-variants as pair
+
+-- the entry that is asked for
+abbrev pub joinOf : Join → Entry → Entry → Entry
+joinOf join.Union e f = withSet e (either (e .set) (f .set))
+joinOf join.Difference e f = withSet e (without (e .set) (f .set))
+
+-- first encoding, second encoding, 13, then 5 and 14
+unfoldable pub joinCall : (Entry → Entry → Entry) → Bytes → Bytes → Bytes → Outcome
+joinCall op a b out = reading a (out ∷ []) λ e. reading b (out ∷ []) λ f. writes (joinTests e f) (op e f ∷ []) (out ∷ []) .outcome
+
+-- the first refusal of two checks and of their widths
+abbrev pub pairOf : Checked → Checked → Pair
+pairOf (checked.Refused k) s = pair.Refused k
+pairOf (checked.Opened e) (checked.Refused k) = pair.Refused k
+pairOf (checked.Opened e) (checked.Opened f) = cond (eqb (e .width) (f .width)) (pair.Opened e f) (pair.Refused twoWidths)
+
+-- refused whatever is asked for, or two encodings of one width
+abbrev pub Both : Bytes → Bytes → Pair → Type 0
+Both a b (pair.Refused k) = (op : Entry → Entry → Entry) (out : Bytes) → joinCall op a b out ≡ refusal k (out ∷ []) .outcome
+Both a b (pair.Opened e f) = Opens a e × Opens b f × (e .width ≡ f .width)
+
+-- k edge bits hold an entry, and what is left of their last byte is clear; they may be too many
+pub record Joined (m k : ℕ) (l : Bytes) : Type 0 where
+  pub positive : 0 < m
+  pub narrow : m ≤ maxWidth
+  pub room : k ≤ 8 * length l
+  pub same : edgesOf (held m k l) ≡ bitsIn l k
+  pub whole : take (started 8 k) l ≡ packBits (bitsIn l k)

@@ -1,0 +1,142 @@
+// Union and difference of two encodings.
+ghost use Prim.Native.Nat.{_+_, _*_, _/_, _<_, _≤_};
+ghost use mathlib.Core.Path.{_≡_};
+ghost use mathlib.Core.List.{[], _∷_};
+ghost use lib.ListN.{length};
+ghost use Rattle.loes.specs.Entry.{edgesOf};
+ghost use Rattle.loes.specs.Held.{held, Holds};
+ghost use Rattle.loes.specs.Model.{writes};
+ghost use Rattle.loes.specs.Calls.{unionCall, differenceCall};
+ghost use Rattle.bits.specs.Tables.{Tallies};
+ghost use Rattle.build.specs.Writing.{writtenOutcome};
+ghost use Rattle.merge.specs.Records.{Written as Collected};
+ghost use Rattle.join.specs.Joining.{pairOf, Both, joinOf, Joined, joinCall};
+use build::Written;
+use encoding::Checked;
+use encoding::Encoding;
+use loes::refusal;
+
+// Which of the two.
+pub enum Join {
+    Union,
+    Difference,
+}
+
+// Two opened encodings of one width, or the refusal.
+pub enum Pair {
+    Refused(u8),
+    Opened(Encoding, Encoding),
+}
+
+// The first encoding's refusal, the second's, then 13.
+fn pair_of(first: Checked, second: Checked) -> Pair
+    ensures { λ r. ⌜ r ≡ pairOf first second ⌝ }
+{
+    match first {
+        Checked::Refused(k) => Pair::Refused(k),
+        Checked::Opened(e) => match second {
+            Checked::Refused(k) => Pair::Refused(k),
+            Checked::Opened(f) => {
+                if e.width == f.width {
+                    Pair::Opened(e, f)
+                } else {
+                    Pair::Refused(refusal::TWO_WIDTHS)
+                }
+            }
+        },
+    }
+}
+
+fn open_both(a: &[u8], b: &[u8], t: &[u16]) -> Pair
+    requires { ⌜ Tallies (now t) ⌝ }
+    ensures { λ r. ⌜ Both (now (a .entry)) (now (b .entry)) r ⌝ }
+{
+    let first = encoding::check(a, t);
+    let second = encoding::check(b, t);
+    pair_of(first, second)
+}
+
+// The edges of the union or the difference of the sets that two edge sequences hold.
+fn joined_edges(
+    kind: Join,
+    m: usize,
+    a: &[u8],
+    ba: usize,
+    b: &[u8],
+    bb: usize,
+    out: &mut [u8],
+) -> usize
+    requires { ⌜ Holds m ba (now a) ⌝ }
+    requires { ⌜ Holds m bb (now b) ⌝ }
+    requires { ⌜ ba + bb < 8 * length (now out) ⌝ }
+    ensures { λ k. ⌜ Collected (edgesOf (joinOf kind (held m ba (now (a .entry))) (held m bb (now (b .entry))))) (now (out .entry)) (now (out .exit)) k ⌝ }
+{
+    match kind {
+        Join::Union => merge::union_edges(m, a, ba, b, bb, out),
+        Join::Difference => merge::difference_edges(m, a, ba, b, bb, out),
+    }
+}
+
+// Writes the entry that k edge bits hold: 5, then 14.
+fn write_joined(m: usize, k: usize, edges: &[u8], t: &[u16], out: &mut [u8]) -> Written
+    requires { ⌜ Joined m k (now edges) × Tallies (now t) × (length (now edges) ≤ 131072) ⌝ }
+    ensures { λ r. ⌜ writtenOutcome r (now (out .exit)) ≡ writes [] (held m k (now (edges .entry)) ∷ []) (now (out .entry) ∷ []) .outcome ⌝ }
+{
+    if k > Encoding::MAX_EDGES {
+        return Written::Refused(refusal::TOO_LARGE);
+    }
+    let n = (k + 7) / 8;
+    build::write(m, k, &edges[..n], t, out)
+}
+
+// Joins with the counting table and room for the edges lent.
+fn join_with(kind: Join, a: &[u8], b: &[u8], t: &[u16], edges: &mut [u8], out: &mut [u8]) -> Written
+    requires { ⌜ (length (now edges) ≡ 131072) × Tallies (now t) ⌝ }
+    ensures { λ r. ⌜ writtenOutcome r (now (out .exit)) ≡ joinCall (joinOf kind) (now (a .entry)) (now (b .entry)) (now (out .entry)) ⌝ }
+{
+    let pair = open_both(a, b, t);
+    match pair {
+        Pair::Refused(k) => Written::Refused(k),
+        Pair::Opened(e, f) => {
+            let from = e.edges;
+            let other = f.edges;
+            let k = joined_edges(
+                kind,
+                e.width,
+                &a[from..],
+                e.bits,
+                &b[other..],
+                f.bits,
+                edges,
+            );
+            write_joined(e.width, k, edges, t, out)
+        }
+    }
+}
+
+// Room for the edges of two largest encodings.
+const EDGE_ROOM: usize = 131072;
+
+fn edge_room() -> [u8; EDGE_ROOM]
+    ensures { λ r. ⌜ length r ≡ 131072 ⌝ }
+{
+    [0; EDGE_ROOM]
+}
+
+// The keys in either set, written to the front of a buffer (document 01: fold).
+pub fn union(a: &[u8], b: &[u8], out: &mut [u8]) -> Written
+    ensures { λ r. ⌜ writtenOutcome r (now (out .exit)) ≡ unionCall (now (a .entry)) (now (b .entry)) (now (out .entry)) ⌝ }
+{
+    let t = bits::tallies();
+    let mut edges = edge_room();
+    join_with(Join::Union, a, b, &t, &mut edges, out)
+}
+
+// The keys in the first set but not in the second (document 01: strike).
+pub fn difference(a: &[u8], b: &[u8], out: &mut [u8]) -> Written
+    ensures { λ r. ⌜ writtenOutcome r (now (out .exit)) ≡ differenceCall (now (a .entry)) (now (b .entry)) (now (out .entry)) ⌝ }
+{
+    let t = bits::tallies();
+    let mut edges = edge_room();
+    join_with(Join::Difference, a, b, &t, &mut edges, out)
+}

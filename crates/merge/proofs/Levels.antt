@@ -1,0 +1,172 @@
+-- A level merged, record by record.
+use mathlib.Core.Path.{_≡_, refl, sym, ap, _∙_}
+use Prim.Native.Nat.{ℕ, suc, _+_, _-_, _*_, _≤_, _<_}
+use mathlib.Core.Bool.{Bool, true, false}
+use mathlib.Core.List.{List, [], _∷_, _++_, append-nil, append-assoc}
+use native.Mathlib.Omega.{arith}
+use native.Mathlib.Decide.{le-ind}
+use lib.ListN.{length, getD, drop, length-append, List·getD-append}
+use lib.Seq.{drop-drop, drop-cons}
+use Rattle.loes.specs.Limits.{maxEdges}
+use Rattle.loes.specs.Bytes.{Bytes, bit, tabulate}
+use Rattle.loes.specs.Edges.{Record}
+use Rattle.loes.proofs.Tree.{length-snoc}
+use Rattle.loes.proofs.Bytes.{length-tabulate, getD-tabulate}
+use Rattle.merge.specs.Records.{Flag, emptyRecord, recordAt, recordsTo, flagAt, flagsTo, flagsFrom}
+use Rattle.merge.specs.Union.{flagIf, eitherRecord, childFlags, nextOf, restOf, merged, pushed, recordsFrom, takenRecord, firstCount, secondCount, RecordMerged, LevelMerged, LevelRoom}
+use Rattle.merge.proofs.Merging.{first-append, second-append}
+
+-- ---- One flag more, at the end
+merged-snoc : (fs : List Flag) (f : Flag) (xs ys : List Record)
+    → merged (fs ++ f ∷ []) xs ys ≡ merged fs xs ys ++ eitherRecord (nextOf (f .inFirst) (drop (firstCount fs) xs)) (nextOf (f .inSecond) (drop (secondCount fs) ys)) ∷ []
+unfolding merged restOf firstCount secondCount
+merged-snoc [] f xs ys = refl
+merged-snoc (g ∷ fs) f xs ys =
+    rw (merged-snoc fs f (drop (bit (g .inFirst)) xs) (drop (bit (g .inSecond)) ys), drop-drop (firstCount fs) (bit (g .inFirst)) xs, drop-drop (secondCount fs) (bit (g .inSecond)) ys)
+
+pushed-snoc : (fs : List Flag) (f : Flag) (xs ys : List Record)
+    → pushed (fs ++ f ∷ []) xs ys ≡ pushed fs xs ys ++ childFlags (nextOf (f .inFirst) (drop (firstCount fs) xs)) (nextOf (f .inSecond) (drop (secondCount fs) ys))
+unfolding pushed restOf firstCount secondCount
+pushed-snoc [] f xs ys = append-nil (childFlags (nextOf (f .inFirst) xs) (nextOf (f .inSecond) ys))
+pushed-snoc (g ∷ fs) f xs ys =
+    rw (pushed-snoc fs f (drop (bit (g .inFirst)) xs) (drop (bit (g .inSecond)) ys), drop-drop (firstCount fs) (bit (g .inFirst)) xs, drop-drop (secondCount fs) (bit (g .inSecond)) ys, append-assoc)
+
+first-snoc : (fs : List Flag) (f : Flag) → firstCount (fs ++ f ∷ []) ≡ firstCount fs + bit (f .inFirst)
+first-snoc fs f = first-append fs (f ∷ []) ∙ unfold firstCount in omega arith
+
+second-snoc : (fs : List Flag) (f : Flag) → secondCount (fs ++ f ∷ []) ≡ secondCount fs + bit (f .inSecond)
+second-snoc fs f = second-append fs (f ∷ []) ∙ unfold secondCount in omega arith
+
+counts-mono : (f : ℕ → Flag) (j n : ℕ) → j ≤ n → (firstCount (tabulate f j) ≤ firstCount (tabulate f n)) × (secondCount (tabulate f j) ≤ secondCount (tabulate f n))
+unfolding tabulate
+counts-mono f j n h =
+    le-ind (λ (k : ℕ). (firstCount (tabulate f j) ≤ firstCount (tabulate f k)) × (secondCount (tabulate f j) ≤ secondCount (tabulate f k))) (omega arith, omega arith)
+    (λ k l e. (omega (arith, first-snoc (tabulate f k) (f k)), omega (arith, second-snoc (tabulate f k) (f k)))) n h
+
+-- ---- A record taken pushes at most two flags
+pub length-one : (a b : Bool) → length (flagIf a b) ≤ 1
+unfolding flagIf
+length-one true b = omega arith
+length-one false true = omega arith
+length-one false false = omega arith
+
+two : (x y : Record) (n : ℕ) → length (childFlags x y) ≤ 2 * (1 + n)
+unfolding childFlags
+two x y n =
+    rw (length-append (flagIf (x .onZero) (y .onZero)) (flagIf (x .onOne) (y .onOne)))
+    (omega (arith, length-one (x .onZero) (y .onZero), length-one (x .onOne) (y .onOne)))
+
+length-children : (a b : Bool) (xs ys : List Record) → length (childFlags (nextOf a xs) (nextOf b ys)) ≤ 2 * (bit a + bit b)
+length-children false false xs ys = unfold childFlags nextOf emptyRecord flagIf in omega arith
+length-children true b xs ys = two (nextOf true xs) (nextOf b ys) (bit b)
+length-children false true xs ys = two (nextOf false xs) (nextOf true ys) 0
+
+pub length-pushed : (fs : List Flag) (xs ys : List Record) → length (pushed fs xs ys) ≤ 2 * (firstCount fs + secondCount fs)
+unfolding pushed firstCount secondCount
+length-pushed [] xs ys = omega arith
+length-pushed (f ∷ fs) xs ys =
+    rw (length-append (childFlags (nextOf (f .inFirst) xs) (nextOf (f .inSecond) ys)) (pushed fs (restOf (f .inFirst) xs) (restOf (f .inSecond) ys)))
+    (omega (arith, length-children (f .inFirst) (f .inSecond) xs ys, length-pushed fs (restOf (f .inFirst) xs) (restOf (f .inSecond) ys)))
+
+-- the record taken is the next
+taken-next : (b : Bool) (l : Bytes) (k n : ℕ) → (b ≡ true → k + n < 4 * length l) → nextOf b (drop n (recordsFrom l k)) ≡ takenRecord b l (k + n)
+unfolding nextOf takenRecord recordsFrom recordsTo
+taken-next false l k n h = refl
+taken-next true l k n h =
+    let i : k + n < 4 * length l = h refl in
+    let j : k + n < length (tabulate (recordAt l) (4 * length l)) = rw (length-tabulate (recordAt l) (4 * length l)) i in
+    rw (drop-drop n k (tabulate (recordAt l) (4 * length l)), drop-cons (tabulate (recordAt l) (4 * length l)) (k + n) emptyRecord j)
+    (getD-tabulate (recordAt l) (4 * length l) (k + n) emptyRecord i)
+
+module _ {a b q o : Bytes} {from ka kb tail : ℕ} where
+  pub level-none : LevelMerged a b q o from ka kb tail (flagsFrom q from 0) q o ka kb tail
+  unfolding flagsFrom tabulate firstCount secondCount pushed merged
+  level-none =
+      let z : from + 0 ≡ from = omega arith in
+      record {
+        takena = omega arith;
+        takenb = omega arith;
+        queue = sym (append-nil (flagsTo q tail));
+        out = rw z (sym (append-nil (recordsTo o from)));
+        qsize = refl;
+        osize = refl;
+      }
+
+  module _ (room : LevelRoom a b q o from ka kb tail (flagsFrom q from (tail - from))) (j : ℕ) (more : j < tail - from)
+      {p u : Bytes} {la lb end : ℕ} (v : LevelMerged a b q o from ka kb tail (flagsFrom q from j) p u la lb end) where
+    end-is : end ≡ tail + length (pushed (flagsFrom q from j) (recordsFrom a ka) (recordsFrom b kb))
+    unfolding flagsTo
+    end-is =
+        sym (length-tabulate (flagAt p) end) ∙ ap length (v .queue)
+        ∙ length-append (tabulate (flagAt q) tail) (pushed (flagsFrom q from j) (recordsFrom a ka) (recordsFrom b kb))
+        ∙ ap (λ x. x + length (pushed (flagsFrom q from j) (recordsFrom a ka) (recordsFrom b kb))) (length-tabulate (flagAt q) tail)
+
+    -- the flag is still there
+    flag-same : flagAt p (from + j) ≡ flagAt q (from + j)
+    unfolding flagsTo
+    flag-same =
+        let d : Flag = record { inFirst = false; inSecond = false } in
+        let i : from + j < end = omega (arith, end-is) in
+        let k : from + j < tail = omega arith in
+        let l : from + j < length (tabulate (flagAt q) tail) = rw (length-tabulate (flagAt q) tail) k in
+        sym (getD-tabulate (flagAt p) end (from + j) d i) ∙ ap (λ x. getD x (from + j) d) (v .queue)
+        ∙ List·getD-append (tabulate (flagAt q) tail) (pushed (flagsFrom q from j) (recordsFrom a ka) (recordsFrom b kb)) d (from + j) l
+        ∙ getD-tabulate (flagAt q) tail (from + j) d k
+
+    -- one record more in each that has one
+    next : (la + bit (flagAt q (from + j) .inFirst) ≤ ka + firstCount (flagsFrom q from (tail - from)))
+        × (lb + bit (flagAt q (from + j) .inSecond) ≤ kb + secondCount (flagsFrom q from (tail - from)))
+    unfolding flagsFrom tabulate
+    next =
+        let f : ℕ → Flag = λ k. flagAt q (from + k) in
+        let e = counts-mono f (suc j) (tail - from) more in
+        (omega (arith, v .takena, first-snoc (tabulate f j) (f j), e .0), omega (arith, v .takenb, second-snoc (tabulate f j) (f j), e .1))
+
+    pub end-le : end + 2 ≤ 4 * length q
+    end-le =
+        omega (arith, end-is, length-pushed (flagsFrom q from j) (recordsFrom a ka) (recordsFrom b kb), v .takena, v .takenb, next .0, next .1, room .queue)
+
+    pub taken-le : la + lb ≤ maxEdges
+    taken-le = omega (arith, next .0, next .1, room .limit)
+
+    pub room-first : flagAt p (from + j) .inFirst ≡ true → la < 4 * length a
+    room-first e =
+        let f : flagAt q (from + j) .inFirst ≡ true = ap (λ x. x .inFirst) (sym flag-same) ∙ e in
+        let g : la + 1 ≤ ka + firstCount (flagsFrom q from (tail - from)) = rw f at (next .0) in
+        omega (arith, room .first)
+
+    pub room-second : flagAt p (from + j) .inSecond ≡ true → lb < 4 * length b
+    room-second e =
+        let f : flagAt q (from + j) .inSecond ≡ true = ap (λ x. x .inSecond) (sym flag-same) ∙ e in
+        let g : lb + 1 ≤ kb + secondCount (flagsFrom q from (tail - from)) = rw f at (next .1) in
+        omega (arith, room .second)
+
+    pub level-more : {p' u' : Bytes} {la' lb' end' : ℕ} → RecordMerged a b p u (from + j) la lb end p' u' la' lb' end'
+        → LevelMerged a b q o from ka kb tail (flagsFrom q from (j + 1)) p' u' la' lb' end'
+    unfolding flagsFrom tabulate
+    level-more t =
+        let fs : List Flag = tabulate (λ k. flagAt q (from + k)) j in
+        let f : Flag = flagAt q (from + j) in
+        let s : j + 1 ≡ suc j = omega arith in
+        let ea : la ≡ ka + firstCount fs = v .takena in
+        let eb : lb ≡ kb + secondCount fs = v .takenb in
+        let ra : f .inFirst ≡ true → ka + firstCount fs < 4 * length a = λ e. rw ea at (room-first (ap (λ x. x .inFirst) flag-same ∙ e)) in
+        let rb : f .inSecond ≡ true → kb + secondCount fs < 4 * length b = λ e. rw eb at (room-second (ap (λ x. x .inSecond) flag-same ∙ e)) in
+        let xa : takenRecord (flagAt p (from + j) .inFirst) a la ≡ nextOf (f .inFirst) (drop (firstCount fs) (recordsFrom a ka)) =
+        rw (flag-same, ea) (sym (taken-next (f .inFirst) a ka (firstCount fs) ra)) in
+        let xb : takenRecord (flagAt p (from + j) .inSecond) b lb ≡ nextOf (f .inSecond) (drop (secondCount fs) (recordsFrom b kb)) =
+        rw (flag-same, eb) (sym (taken-next (f .inSecond) b kb (secondCount fs) rb)) in
+        let lf : length fs ≡ j = length-tabulate (λ k. flagAt q (from + k)) j in
+        rw s
+        record {
+          takena = t .takena ∙ rw (flag-same, ea, first-snoc fs f) (omega arith);
+          takenb = t .takenb ∙ rw (flag-same, eb, second-snoc fs f) (omega arith);
+          queue = t .queue ∙ rw (xa, xb, v .queue, pushed-snoc fs f, append-assoc);
+          out =
+              let z : from + length (fs ++ f ∷ []) ≡ suc (from + j) = omega (arith, length-snoc fs f) in
+              let w : from + length fs ≡ from + j = omega arith in
+              let y : recordsTo u (from + j) ≡ recordsTo o from ++ merged fs (recordsFrom a ka) (recordsFrom b kb) = rw w at (v .out) in
+              rw z (t .out ∙ rw (xa, xb, y, merged-snoc fs f, append-assoc));
+          qsize = t .qsize ∙ v .qsize;
+          osize = t .osize ∙ v .osize;
+        }

@@ -1,0 +1,11 @@
+pub mod Lists
+pub mod Codes
+pub mod Merging
+pub mod Levels
+pub mod Held
+pub mod Queue
+pub mod Sealing
+pub mod Restricting
+pub mod Marking
+pub mod Compacting
+pub mod Subsets

@@ -1,0 +1,136 @@
+-- Setting bits in bytes
+use mathlib.Core.Path.{_≡_, refl, sym, ap, _∙_}
+use Prim.Native.Nat.{ℕ, zero, suc, _+_, _-_, _*_, _/_, _%_, _^_, _≤_, _<_}
+use native.Mathlib.Nat.{pow-suc}
+use mathlib.Core.Bool.{Bool, true, false, cond}
+use mathlib.Core.List.{List}
+use native.Mathlib.Omega.{arith}
+use native.Mathlib.Decide.{decLe, ℕ-discrete}
+use mir.Val.{boolByte}
+use lib.ListN.{length, getD, set, length-set}
+use lib.Pow.{pow-pos, pow-add, shl-exact, shl-shr}
+use lib.Bits.{bitAnd, bitOr, or-add-and, and-high}
+use lib.Seq.{ext-getD, getD-set-same, getD-set-other, set-getD}
+use Rattle.loes.specs.Bytes.{bit, odd, bitAt, tabulate, bitsValue, byteOf, packBits, started}
+use Rattle.loes.proofs.Bytes.{getD-tabulate, length-packed}
+use Rattle.loes.proofs.Bits.{tabulate-ext, at-packed, bit-odd, bitsValue-snoc}
+use Rattle.pack.specs.Marking.{setBit, setBits}
+
+-- one bit more
+value-set : (f g : ℕ → Bool) (n j : ℕ) → j < n → f j ≡ false → g j ≡ true → ((x : ℕ) → x < n → (x ≡ j → ⊥) → g x ≡ f x)
+    → bitsValue (tabulate g n) 0 ≡ bitsValue (tabulate f n) 0 + 2 ^ (n - 1 - j)
+unfolding tabulate
+value-set f g zero j h a b other = absurd (omega arith)
+value-set f g (suc n) j h a b other =
+    rw (bitsValue-snoc (tabulate g n) (g n) 0, bitsValue-snoc (tabulate f n) (f n) 0)
+    (elim (decLe (suc j) n) [
+      | yes y ↦
+          let p : suc n - 1 - j ≡ suc (n - 1 - j) = omega arith in
+          let same : g n ≡ f n = other n (omega arith) (λ q. omega arith) in
+          let w : 2 ^ suc (n - 1 - j) ≡ 2 ^ (n - 1 - j) * 2 = pow-suc 2 (n - 1 - j) in
+          let ih : bitsValue (tabulate g n) 0 ≡ bitsValue (tabulate f n) 0 + 2 ^ (n - 1 - j) = value-set f g n j y a b (λ x l d. other x (omega arith) d) in
+          rw (p, same, w) (omega arith)
+      | no y ↦
+          let q : j ≡ n = omega arith in
+          let p : suc n - 1 - j ≡ 0 = omega arith in
+          let gn : g n ≡ true = rw q at b in
+          let fn : f n ≡ false = rw q at a in
+          let t : tabulate g n ≡ tabulate f n = tabulate-ext g f n (λ x l. other x (omega arith) (λ d. omega arith)) in
+          rw (p, gn, fn, t) (omega arith)
+    ])
+
+byte-same : (e : List Bool) (o i : ℕ) → (i ≡ o / 8 → ⊥) → byteOf (set e o true) i ≡ byteOf e i
+unfolding byteOf
+byte-same e o i d =
+    ap (λ (t : List Bool). bitsValue t 0)
+    (tabulate-ext (λ j. getD (set e o true) (8 * i + j) false) (λ j. getD e (8 * i + j) false) 8
+    (λ j h. getD-set-other e o (8 * i + j) true false (λ q. d (omega arith))))
+
+byte-set : (e : List Bool) (o : ℕ) → o < length e → getD e o false ≡ false → byteOf (set e o true) (o / 8) ≡ byteOf e (o / 8) + 2 ^ (7 - o % 8)
+unfolding byteOf
+byte-set e o h clear =
+    let z : 8 * (o / 8) + o % 8 ≡ o = omega arith in
+    let f : ℕ → Bool = λ j. getD e (8 * (o / 8) + j) false in
+    let g : ℕ → Bool = λ j. getD (set e o true) (8 * (o / 8) + j) false in
+    let a : f (o % 8) ≡ false = rw z clear in
+    let b : g (o % 8) ≡ true = rw z (getD-set-same e o true false h) in
+    value-set f g 8 (o % 8) (omega arith) a b (λ x l d. getD-set-other e o (8 * (o / 8) + x) true false (λ q. d (omega arith)))
+
+pub at-byte : (e : List Bool) (i : ℕ) → i < started 8 (length e) → getD (packBits e) i 0 ≡ byteOf e i
+unfolding packBits
+at-byte e i h = getD-tabulate (byteOf e) (started 8 (length e)) i 0 h
+
+packed-empty : (e : List Bool) (o : ℕ) → o < length e → getD e o false ≡ false
+    → set (packBits e) (o / 8) (getD (packBits e) (o / 8) 0 + 2 ^ (7 - o % 8)) ≡ packBits (set e o true)
+packed-empty e o h q =
+    let v : ℕ = getD (packBits e) (o / 8) 0 + 2 ^ (7 - o % 8) in
+    let sl : length (set e o true) ≡ length e = length-set e o true in
+    let q8 : o / 8 < started 8 (length e) = unfold started in omega arith in
+    let len : length (set (packBits e) (o / 8) v) ≡ length (packBits (set e o true)) =
+    length-set (packBits e) (o / 8) v ∙ length-packed e ∙ sym (length-packed (set e o true) ∙ ap (started 8) sl) in
+    ext-getD 0 (set (packBits e) (o / 8) v) (packBits (set e o true)) len (λ i l.
+    let i8 : i < started 8 (length e) = rw (length-set (packBits e) (o / 8) v, length-packed e) at l in
+    let i9 : i < started 8 (length (set e o true)) = rw sl i8 in
+    elim (ℕ-discrete i (o / 8)) [
+      | yes y ↦
+          rw (at-byte (set e o true) i i9, y, byte-set e o h q, ← at-byte e (o / 8) q8) (getD-set-same (packBits e) (o / 8) v 0 (rw (length-packed e) q8))
+      | no y ↦
+          rw (at-byte (set e o true) i i9, byte-same e o i y, ← at-byte e i i8) (getD-set-other (packBits e) (o / 8) i v 0 y)
+    ])
+
+-- setting a bit of packed bits
+pub packed-set : (e : List Bool) (o : ℕ) → o < length e → setBit (packBits e) o ≡ packBits (set e o true)
+unfolding setBit
+packed-set e o h = rw (at-packed e o h) (go (getD e o false) refl)
+  where
+    go : (b : Bool) → getD e o false ≡ b → cond b (packBits e) (set (packBits e) (o / 8) (getD (packBits e) (o / 8) 0 + 2 ^ (7 - o % 8))) ≡ packBits (set e o true)
+    go true q = ap packBits (sym (ap (set e o) (sym q) ∙ set-getD e o false))
+    go false q = packed-empty e o h q
+
+-- ---- the code's way to set it
+pub shl-is : (k : ℕ) → k ≤ 7 → 1 * 2 ^ k % 256 ≡ 2 ^ k
+shl-is k h = shl-exact 1 k 8 (omega arith) (omega arith) ∙ omega arith
+
+and-bit : (x k : ℕ) → bitAnd x (2 ^ k) ≡ x / 2 ^ k % 2 * 2 ^ k
+and-bit x k = let z : 2 ^ (1 + k) - 2 ^ k ≡ 2 ^ k = rw (pow-add 2 1 k) (omega arith) in rw z at (and-high x 1 k)
+
+shr-is : (k : ℕ) → k ≤ 7 → 128 / 2 ^ k ≡ 2 ^ (7 - k)
+shr-is k h =
+    let z : 7 - k + k ≡ 7 = omega arith in
+    let p : 128 ≡ 2 ^ (7 - k) * 2 ^ k = rw z at (pow-add 2 (7 - k) k) in
+    rw p (shl-shr (2 ^ (7 - k)) k)
+
+pub set-or : (l : List ℕ) (o : ℕ) → set l (o / 8) (bitOr (getD l (o / 8) 0) (128 / 2 ^ (o % 8))) ≡ setBit l o
+unfolding setBit bitAt
+set-or l o =
+    let x : ℕ = getD l (o / 8) 0 in
+    let k : ℕ = 7 - o % 8 in
+    let a : x / 2 ^ k % 2 ≡ bit (odd (x / 2 ^ k)) = sym (bit-odd (x / 2 ^ k)) in
+    let b : bitAnd x (2 ^ k) ≡ bit (odd (x / 2 ^ k)) * 2 ^ k = rw a at (and-bit x k) in
+    rw (shr-is (o % 8) (omega arith)) (go (odd (x / 2 ^ k)) x k b (or-add-and x (2 ^ k)) refl)
+  where
+    go : (c : Bool) (x k : ℕ) → bitAnd x (2 ^ k) ≡ bit c * 2 ^ k → bitOr x (2 ^ k) + bitAnd x (2 ^ k) ≡ x + 2 ^ k → x ≡ getD l (o / 8) 0
+        → set l (o / 8) (bitOr x (2 ^ k)) ≡ cond c l (set l (o / 8) (x + 2 ^ k))
+    go true x k b e q = let z : bitOr x (2 ^ k) ≡ x = omega arith in rw (z, q) (set-getD l (o / 8) 0)
+    go false x k b e q = let z : bitOr x (2 ^ k) ≡ x + 2 ^ k = omega arith in rw z
+
+-- one turn of the loop over the levels
+pub bits-more : (o : ℕ → ℕ) (from e : ℕ) (l cur new : List ℕ) → from ≤ e → cur ≡ setBits o from (e - from) l → new ≡ setBit cur (o e)
+    → new ≡ setBits o from (e + 1 - from) l
+unfolding setBits
+bits-more o from e l cur new h c n =
+    let z : e + 1 - from ≡ suc (e - from) = omega arith in
+    let w : from + (e - from) ≡ e = omega arith in
+    rw (z, w, ← c) n
+
+pub bits-none : (o : ℕ → ℕ) (from : ℕ) (l : List ℕ) → l ≡ setBits o from (from - from) l
+unfolding setBits
+bits-none o from l = let z : from - from ≡ 0 = omega arith in rw z
+
+pub shl-pos : (k : ℕ) → k ≤ 7 → 0 < 1 * 2 ^ k % 256
+shl-pos k h = rw (shl-is k h) (pow-pos k)
+
+-- ---- a truth value as a number
+pub byte-bit : (b : Bool) → boolByte b ≡ bit b
+byte-bit true = refl
+byte-bit false = refl

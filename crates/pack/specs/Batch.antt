@@ -1,0 +1,87 @@
+-- A batch: its keys, and what is tested of them.
+use mathlib.Core.Path.{_≡_}
+use Prim.Native.Nat.{ℕ, zero, suc, _-_, _*_, _/_, _^_, _<_, _≤_}
+use mathlib.Core.List.{List, [], _∷_}
+use mathlib.Core.Option.{none, some}
+use lib.ListN.{length, getD, drop, replicate}
+use Rattle.loes.specs.Limits.{maxWidth}
+use Rattle.loes.specs.Bytes.{Bytes, odd, tabulate, join, started}
+use Rattle.loes.specs.Keys.{Key, less}
+use Rattle.loes.specs.Entry.{keyBytes}
+use Rattle.loes.specs.Refusals.{unusedBitSet, descending, Tests, test, firstOf}
+use Rattle.loes.specs.Model.{keyIn, unusedSet}
+use Rattle.loes.proofs.Tree.{prefixCount}
+use Rattle.loes.proofs.Navigation.{recordsBefore}
+use Rattle.pack.specs.Rising.{firstNew, setBelow, Rising}
+use Rattle.pack.specs.Marking.{maxRecords}
+use Rattle.pack.specs.declared.Checked.{Checked}
+use Rattle.pack.specs.declared.Checked.the-variants.{Refused, Accepted}
+
+-- the bytes agree below n, which is t or a place where they differ
+pub record SameBytes (x y : Bytes) (t n : ℕ) : Type 0 where
+  pub most : n ≤ t
+  pub each : (i : ℕ) → i < n → getD x i 0 ≡ getD y i 0
+  pub differ : n < t → getD x n 0 ≡ getD y n 0 → ⊥
+
+-- n is the first bit in which two bytes differ
+pub record FirstDifference (p q n : ℕ) : Type 0 where
+  pub within : n < 8
+  pub each : (i : ℕ) → i < n → odd (p / 2 ^ (7 - i)) ≡ odd (q / 2 ^ (7 - i))
+  pub differ : odd (p / 2 ^ (7 - n)) ≡ odd (q / 2 ^ (7 - n)) → ⊥
+
+-- key i of a batch
+abbrev pub key : ℕ → Bytes → ℕ → Key
+key m l i = keyIn m (drop (keyBytes m * i) l)
+
+-- the batch has a key i, of t bytes
+pub record KeyThere (m t i : ℕ) (l : Bytes) : Type 0 where
+  pub positive : 0 < m
+  pub narrow : m ≤ maxWidth
+  pub size : t ≡ keyBytes m
+  pub there : t * suc i ≤ length l
+
+-- the key before key i: nothing before the first
+unfoldable pub previous : (ℕ → Key) → ℕ → Key
+previous f zero = []
+previous f (suc i) = f i
+
+-- 11 and 12 of key i, and of the first n keys
+unfoldable pub keyTests : ℕ → Bytes → ℕ → Tests
+keyTests m l i =
+    test (unusedSet m (drop (keyBytes m * i) l)) unusedBitSet ∷ test (less (key m l i) (previous (key m l) i)) descending ∷ []
+
+unfoldable pub testsBelow : ℕ → Bytes → ℕ → Tests
+testsBelow m l n = join (tabulate (keyTests m l) n)
+
+-- key i is refused, or its first new length is told
+abbrev pub KeyChecked : ℕ → Bytes → ℕ → Checked → Type 0
+KeyChecked m l i (Refused k) = firstOf (keyTests m l i) ≡ some k
+KeyChecked m l i (Accepted e) = (firstOf (keyTests m l i) ≡ none) × (e ≡ firstNew (key m l) i)
+
+-- a batch of n keys of t bytes
+pub record Batch (m t n : ℕ) (l : Bytes) : Type 0 where
+  pub positive : 0 < m
+  pub narrow : m ≤ maxWidth
+  pub size : t ≡ keyBytes m
+  pub whole : length l ≡ t * n
+
+-- whose records are to be counted
+pub record Uncounted (m t n : ℕ) (l : Bytes) (counts : List ℕ) : Type 0 where
+  pub batch : Batch m t n l
+  pub long : m ≤ length counts
+  pub zero : (e : ℕ) → e < m → getD counts e 0 ≡ 0
+
+-- a key is refused, or the records of each level are counted
+abbrev pub RecordsCounted : ℕ → ℕ → Bytes → List ℕ → Checked → Type 0
+RecordsCounted m n l counts (Refused k) = firstOf (testsBelow m l n) ≡ some k
+RecordsCounted m n l counts (Accepted b) =
+    (firstOf (testsBelow m l n) ≡ none) × ((e : ℕ) → e < m → getD counts e 0 ≡ prefixCount e m (setBelow (key m l) n))
+
+-- rising keys to be marked: each cursor is at its level's first record, the edge bytes are clear
+pub record Unmarked (m t n : ℕ) (l : Bytes) (cursors : List ℕ) (edges : Bytes) : Type 0 where
+  pub batch : Batch m t n l
+  pub rising : Rising m n (key m l)
+  pub long : m ≤ length cursors
+  pub starts : (e : ℕ) → e < m → getD cursors e 0 ≡ recordsBefore e m (setBelow (key m l) n)
+  pub few : recordsBefore m m (setBelow (key m l) n) ≤ maxRecords
+  pub clear : edges ≡ replicate (started 8 (2 * recordsBefore m m (setBelow (key m l) n))) 0

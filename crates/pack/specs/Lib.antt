@@ -1,0 +1,4 @@
+pub mod Rising
+pub mod Marking
+pub mod Batch
+pub mod Packing

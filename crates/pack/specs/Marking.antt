@@ -1,0 +1,51 @@
+-- Records counted by level, and bits set in edge bytes.
+use mathlib.Core.Path.{_≡_}
+use Prim.Native.Nat.{ℕ, zero, suc, _+_, _-_, _/_, _%_, _^_, _*_, _<_, _≤_}
+use mathlib.Core.Bool.{cond}
+use mathlib.Core.List.{List}
+use lib.ListN.{length, getD, set}
+use lib.Dec.{leb}
+use Rattle.loes.specs.Limits.{maxEdges}
+use Rattle.loes.specs.Bytes.{Bytes, bit, bitAt}
+use Rattle.loes.specs.Entry.{keyBytes}
+
+-- one more from a level on
+pub record Bumped (from m : ℕ) (old new : List ℕ) : Type 0 where
+  pub long : length new ≡ length old
+  pub each : (e : ℕ) → e < m → getD new e 0 ≡ getD old e 0 + bit (leb from e)
+
+-- the first d of a list of numbers, added
+unfoldable pub sumBelow : List ℕ → ℕ → ℕ
+sumBelow l zero = 0
+sumBelow l (suc d) = sumBelow l d + getD l d 0
+
+-- so many records have room: two bits each
+abbrev pub maxRecords : ℕ
+maxRecords = maxEdges / 2
+
+-- of the records of each level: those before it, and r in all, unless there is no room for so many
+pub record Starts (m : ℕ) (counts starts : List ℕ) (r : ℕ) : Type 0 where
+  pub total : r ≤ maxRecords → r ≡ sumBelow counts m
+  pub each : r ≤ maxRecords → (e : ℕ) → e < m → getD starts e 0 ≡ sumBelow counts e
+  pub over : maxRecords < r → maxRecords < sumBelow counts m
+
+-- bytes with bit o set
+unfoldable pub setBit : Bytes → ℕ → Bytes
+setBit l o = cond (bitAt l o) l (set l (o / 8) (getD l (o / 8) 0 + 2 ^ (7 - o % 8)))
+
+-- bytes with the bits o from, o (from + 1), … set, n of them
+unfoldable pub setBits : (ℕ → ℕ) → ℕ → ℕ → Bytes → Bytes
+setBits o from zero l = l
+setBits o from (suc n) l = setBit (setBits o from n l) (o (from + n))
+
+-- where a key's edge of level e is: its cursor is behind the level's last record, and moves from the first new level on
+unfoldable pub offsetOf : List ℕ → ℕ → Bytes → ℕ → ℕ
+offsetOf cursors new key e = 2 * (getD cursors e 0 + bit (leb new e) - 1) + bit (bitAt key e)
+
+-- there is that record, and it lies in the edge bytes
+pub record Room (m new : ℕ) (key : Bytes) (cursors : List ℕ) (edges : Bytes) : Type 0 where
+  pub far : keyBytes m ≤ length key
+  pub long : m ≤ length cursors
+  pub some : (e : ℕ) → e < m → 0 < getD cursors e 0 + bit (leb new e)
+  pub fit : (e : ℕ) → e < m → 2 * (getD cursors e 0 + bit (leb new e)) ≤ 8 * length edges
+  pub small : length edges ≤ maxEdges / 8

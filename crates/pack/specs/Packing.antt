@@ -1,0 +1,50 @@
+-- What is answered for a batch: pack's tests up to 5, and the edge bytes of its entry.
+use mathlib.Core.Path.{_≡_}
+use Prim.Native.Nat.{ℕ, _<_}
+use mathlib.Core.List.{List, [], _∷_, _++_}
+use mathlib.Core.Option.{none, some}
+use lib.ListN.{length, getD}
+use Rattle.loes.specs.Limits.{maxWidth}
+use Rattle.loes.specs.Bytes.{Bytes, started, packBits, front}
+use Rattle.loes.specs.Entry.{edgesOf, edgeCount, tooManyEdges}
+use Rattle.loes.specs.Refusals.{tooLarge, Tests, test, firstOf}
+use Rattle.loes.specs.Model.{packTests, batchEntry}
+use Rattle.loes.proofs.Navigation.{recordsBefore}
+use Rattle.pack.specs.declared.Checked.{Checked}
+use Rattle.pack.specs.declared.Checked.the-variants.{Refused, Accepted}
+
+-- 4, 10, then key by key 11 and 12, then 5
+unfoldable pub edgeTests : ℕ → Bytes → Tests
+edgeTests m l = packTests m l ++ test (tooManyEdges (edgeCount (batchEntry m l))) tooLarge ∷ []
+
+-- the batch passes, and b edge bits are in front of what was in the buffer
+pub record Made (m : ℕ) (l old new : Bytes) (b : ℕ) : Type 0 where
+  pub accepted : firstOf (edgeTests m l) ≡ none
+  pub count : b ≡ edgeCount (batchEntry m l)
+  pub bytes : new ≡ front (packBits (edgesOf (batchEntry m l))) old
+
+-- refused with the number of the first test that holds, or made
+abbrev pub BatchEdges : ℕ → Bytes → Bytes → Bytes → Checked → Type 0
+BatchEdges m l old new (Refused k) = firstOf (edgeTests m l) ≡ some k
+BatchEdges m l old new (Accepted b) = Made m l old new b
+
+-- ---- On the way
+-- no record is counted yet
+pub record Blank (levels : List ℕ) : Type 0 where
+  pub long : length levels ≡ maxWidth
+  pub zero : (e : ℕ) → e < maxWidth → getD levels e 0 ≡ 0
+
+-- the batch passes, and the records before each level are known
+pub record Ready (m : ℕ) (l : Bytes) (levels : List ℕ) : Type 0 where
+  pub accepted : firstOf (edgeTests m l) ≡ none
+  pub starts : (e : ℕ) → e < m → getD levels e 0 ≡ recordsBefore e m (batchEntry m l .set)
+
+abbrev pub Planned : ℕ → Bytes → List ℕ → Checked → Type 0
+Planned m l levels (Refused k) = firstOf (edgeTests m l) ≡ some k
+Planned m l levels (Accepted b) = Ready m l levels × (b ≡ edgeCount (batchEntry m l))
+
+-- room for its edge bytes
+pub record Unfilled (m : ℕ) (l : Bytes) (levels : List ℕ) (edges : Bytes) : Type 0 where
+  pub ready : Ready m l levels
+  pub long : length levels ≡ maxWidth
+  pub room : length edges ≡ started 8 (edgeCount (batchEntry m l))

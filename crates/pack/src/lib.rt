@@ -1,0 +1,331 @@
+// A batch of keys made to edge bytes: what packing does before an encoding is written.
+ghost use mathlib.Core.Path.{_≡_};
+ghost use Prim.Native.Nat.{ℕ, _+_, _-_, _*_, _/_, _^_, _<_, _≤_};
+ghost use lib.ListN.{length, getD, replicate};
+ghost use Rattle.loes.specs.Limits.{maxWidth, maxEdges};
+ghost use Rattle.loes.specs.Edges.{edges as edgesIn};
+ghost use Rattle.loes.specs.Bytes.{packBits};
+ghost use Rattle.loes.specs.Keys.{less};
+ghost use Rattle.loes.specs.Entry.{keyBytes, edgesOf};
+ghost use Rattle.loes.specs.Model.{keyIn, unusedSet, batchEntry};
+ghost use Rattle.loes.specs.Calls.{packCall};
+ghost use Rattle.bits.specs.Tables.{Tallies};
+ghost use Rattle.build.specs.Writing.{writtenOutcome};
+ghost use Rattle.pack.specs.Packing.{Blank, Planned, Unfilled, BatchEdges};
+ghost use Rattle.pack.specs.Rising.{commonPrefix, firstNew, setBelow};
+ghost use Rattle.pack.specs.Marking.{Bumped, Starts, setBit, setBits, offsetOf, Room};
+ghost use Rattle.pack.specs.Batch.{SameBytes, FirstDifference, key, previous, KeyThere, KeyChecked, Uncounted, RecordsCounted, Unmarked};
+use bits::EdgeOffset;
+use build::Written;
+use encoding::Encoding;
+use loes::refusal;
+
+// Records that the most edges make, and the bytes they take.
+const MAX_RECORDS: usize = Encoding::MAX_EDGES / 2;
+
+const MAX_EDGE_BYTES: usize = Encoding::MAX_EDGES / 8;
+
+// A refusal's number, or the number asked for.
+pub enum Checked {
+    Refused(u8),
+    Accepted(usize),
+}
+
+// ---- How far neighbours agree
+// How many bytes agree, from the first on, of t at most.
+fn same_bytes(x: &[u8], y: &[u8], t: usize) -> usize
+    requires { ⌜ (t ≤ length (now x)) × (t ≤ length (now y)) ⌝ }
+    ensures { λ r. ⌜ SameBytes (now (x .entry)) (now (y .entry)) t r ⌝ }
+{
+    let mut j = 0;
+    while j < t {
+        if x[j] != y[j] {
+            return j;
+        }
+        j += 1;
+    }
+    j
+}
+
+// The first bit in which two bytes differ, the most significant being bit 0.
+fn first_difference(p: u8, q: u8) -> usize
+    requires { ⌜ (p ≡ q → ⊥) ⌝ }
+    ensures { λ r. ⌜ FirstDifference p q r ⌝ }
+{
+    u8::leading_zeros(p ^ q) as usize
+}
+
+// How many bits two keys agree in, from the first on: whole bytes, then bits of the byte that differs.
+fn common_prefix(x: &[u8], y: &[u8], m: usize) -> usize
+    requires { ⌜ (m ≤ maxWidth) × ((keyBytes m ≤ length (now x)) × (keyBytes m ≤ length (now y))) ⌝ }
+    ensures { λ r. ⌜ r ≡ commonPrefix (keyIn m (now (x .entry))) (keyIn m (now (y .entry))) ⌝ }
+{
+    let t = (m + 7) / 8;
+    let j = same_bytes(x, y, t);
+    if j == t {
+        return m;
+    }
+    let d = 8 * j + first_difference(x[j], y[j]);
+    if d < m {
+        return d;
+    }
+    m
+}
+
+// The least length of which key i has a prefix that no key before it has.
+fn first_new(batch: &[u8], i: usize, t: usize, m: usize) -> usize
+    requires { ⌜ KeyThere m t i (now batch) ⌝ }
+    ensures { λ r. ⌜ r ≡ firstNew (key m (now (batch .entry))) i ⌝ }
+{
+    if i == 0 {
+        return 0;
+    }
+    let at = t * i;
+    common_prefix(&batch[at - t..], &batch[at..], m) + 1
+}
+
+// ---- First pass: the keys are checked, and the records of each level counted
+// Whether a bit behind the m bits of a key is set.
+fn unused_set(key: &[u8], t: usize, m: usize) -> bool
+    requires { ⌜ ((0 < m) × (m ≤ maxWidth)) × ((t ≡ keyBytes m) × (t ≤ length (now key))) ⌝ }
+    ensures { λ r. ⌜ r ≡ unusedSet m (now (key .entry)) ⌝ }
+{
+    let x = key[t - 1];
+    x % (1u8 << (8 * t - m)) != 0
+}
+
+// Whether key i is smaller than the one before it, which then has 1 in the first bit in which they differ.
+fn descends(batch: &[u8], i: usize, new: usize, t: usize, m: usize) -> bool
+    requires { ⌜ KeyThere m t i (now batch) × (new ≡ firstNew (key m (now batch)) i) ⌝ }
+    ensures { λ r. ⌜ r ≡ less (key m (now (batch .entry)) i) (previous (key m (now (batch .entry))) i) ⌝ }
+{
+    if i == 0 {
+        return false;
+    }
+    if new > m {
+        return false;
+    }
+    let before = t * (i - 1);
+    bits::bit_at(&batch[before..], new - 1)
+}
+
+// Refuses key i with 11 or 12, or tells the least length of which it has a new prefix.
+fn check_key(batch: &[u8], i: usize, t: usize, m: usize) -> Checked
+    requires { ⌜ KeyThere m t i (now batch) ⌝ }
+    ensures { λ r. ⌜ KeyChecked m (now (batch .entry)) i r ⌝ }
+{
+    let at = t * i;
+    if unused_set(&batch[at..], t, m) {
+        return Checked::Refused(refusal::UNUSED_BIT_SET);
+    }
+    let new = first_new(batch, i, t, m);
+    if descends(batch, i, new, t, m) {
+        return Checked::Refused(refusal::DESCENDING);
+    }
+    Checked::Accepted(new)
+}
+
+// One record more on each level from a level on; none where the key is that before it.
+fn bump(counts: &mut [usize], from: usize, m: usize)
+    requires { ⌜ (m ≤ length (now counts)) × ((e : ℕ) → e < m → getD (now counts) e 0 + 1 < 2 ^ 64) ⌝ }
+    ensures { λ _. ⌜ Bumped from m (now (counts .entry)) (now (counts .exit)) ⌝ }
+{
+    let mut e = from;
+    while e < m {
+        counts[e] += 1;
+        e += 1;
+    }
+}
+
+// Checks the keys one by one, and counts the records of each level.
+fn count_records(batch: &[u8], n: usize, t: usize, m: usize, counts: &mut [usize]) -> Checked
+    requires { ⌜ Uncounted m t n (now batch) (now counts) ⌝ }
+    ensures { λ r. ⌜ RecordsCounted m n (now (batch .entry)) (now (counts .exit)) r ⌝ }
+{
+    let mut i = 0;
+    while i < n {
+        let checked = check_key(batch, i, t, m);
+        match checked {
+            Checked::Refused(k) => {
+                return Checked::Refused(k);
+            }
+            Checked::Accepted(new) => {
+                bump(counts, new, m);
+            }
+        }
+        i += 1;
+    }
+    Checked::Accepted(n)
+}
+
+// Puts the records before each level in place of those of each level; how many there are in all, or so far where there are too many.
+fn level_starts(levels: &mut [usize], m: usize) -> usize
+    requires { ⌜ (m ≤ length (now levels)) × ((e : ℕ) → e < m → getD (now levels) e 0 < 2 ^ 63) ⌝ }
+    ensures { λ r. ⌜ Starts m (now (levels .entry)) (now (levels .exit)) r ⌝ }
+{
+    let mut records = 0;
+    let mut e = 0;
+    while e < m {
+        let k = levels[e];
+        levels[e] = records;
+        records += k;
+        if records > MAX_RECORDS {
+            return records;
+        }
+        e += 1;
+    }
+    records
+}
+
+// ---- Second pass: the edges are marked
+// Sets bit o.
+fn set_bit(b: &mut [u8], o: EdgeOffset)
+    requires { ⌜ o .0 / 8 < length (now b) ⌝ }
+    ensures { λ _. ⌜ now (b .exit) ≡ setBit (now (b .entry)) (o .0) ⌝ }
+{
+    let n = o.0;
+    let at = n / 8;
+    let x = b[at];
+    b[at] = x | (128u8 >> (n % 8));
+}
+
+// The level above the first new one, whose record gets a second edge; 0 for the first key.
+fn above(new: usize) -> usize
+    ensures { λ r. ⌜ r ≡ new - 1 ⌝ }
+{
+    if new == 0 {
+        return 0;
+    }
+    new - 1
+}
+
+// Moves the cursors of the levels on which a key has a new record, and sets its edges there and on the level above.
+fn mark_key(key: &[u8], new: usize, m: usize, cursors: &mut [usize], edges: &mut [u8])
+    requires { ⌜ Room m new (now key) (now cursors) (now edges) ⌝ }
+    ensures moved { λ _. ⌜ Bumped new m (now (cursors .entry)) (now (cursors .exit)) ⌝ }
+    ensures set { λ _. ⌜ now (edges .exit) ≡ setBits (offsetOf (now (cursors .entry)) new (now (key .entry))) (new - 1) (m - (new - 1)) (now (edges .entry)) ⌝ }
+{
+    let mut e = above(new);
+    while e < m {
+        let record = cursors[e] + (new <= e) as usize;
+        cursors[e] = record;
+        let o = 2 * (record - 1) + bits::bit_at(key, e) as usize;
+        set_bit(edges, EdgeOffset(o));
+        e += 1;
+    }
+}
+
+// Sets the edges of all keys, with a cursor for each level.
+fn mark_keys(batch: &[u8], n: usize, t: usize, m: usize, cursors: &mut [usize], edges: &mut [u8])
+    requires { ⌜ Unmarked m t n (now batch) (now cursors) (now edges) ⌝ }
+    ensures { λ _. ⌜ now (edges .exit) ≡ packBits (edgesIn m (setBelow (key m (now (batch .entry))) n)) ⌝ }
+{
+    let mut i = 0;
+    while i < n {
+        let new = first_new(batch, i, t, m);
+        let at = t * i;
+        mark_key(&batch[at..], new, m, cursors, edges);
+        i += 1;
+    }
+}
+
+// Clears what was in a buffer.
+fn clear(b: &mut [u8])
+    ensures { λ _. ⌜ now (b .exit) ≡ replicate (length (now (b .entry))) 0 ⌝ }
+{
+    let mut i = 0;
+    while i < b.len() {
+        b[i] = 0;
+        i += 1;
+    }
+}
+
+// ---- Both passes
+// No record yet on any level.
+fn no_records() -> [usize; Encoding::MAX_WIDTH]
+    ensures { λ r. ⌜ Blank r ⌝ }
+{
+    [0; Encoding::MAX_WIDTH]
+}
+
+// Refuses a batch, or tells how many edge bits its entry has, and the records before each level.
+fn plan(m: usize, batch: &[u8], levels: &mut [usize]) -> Checked
+    requires { ⌜ Blank (now levels) ⌝ }
+    ensures { λ r. ⌜ Planned m (now (batch .entry)) (now (levels .exit)) r ⌝ }
+{
+    if m == 0 {
+        return Checked::Refused(refusal::BAD_WIDTH);
+    }
+    if m > Encoding::MAX_WIDTH {
+        return Checked::Refused(refusal::BAD_WIDTH);
+    }
+    let t = (m + 7) / 8;
+    if batch.len() % t != 0 {
+        return Checked::Refused(refusal::RAGGED_BATCH);
+    }
+    let counted = count_records(batch, batch.len() / t, t, m, levels);
+    if let Checked::Refused(k) = counted {
+        return Checked::Refused(k);
+    }
+    let records = level_starts(levels, m);
+    if records > MAX_RECORDS {
+        return Checked::Refused(refusal::TOO_LARGE);
+    }
+    Checked::Accepted(2 * records)
+}
+
+// The edge bytes of a planned batch, whatever was in the buffer.
+fn fill(batch: &[u8], m: usize, levels: &mut [usize], edges: &mut [u8])
+    requires { ⌜ Unfilled m (now batch) (now levels) (now edges) ⌝ }
+    ensures { λ _. ⌜ now (edges .exit) ≡ packBits (edgesOf (batchEntry m (now (batch .entry)))) ⌝ }
+{
+    let t = (m + 7) / 8;
+    clear(edges);
+    mark_keys(batch, batch.len() / t, t, m, levels, edges);
+}
+
+// Puts the edges of a batch's set to the front of a buffer, and tells how many bits they are; or refuses with 4, 10, then key by key 11 and 12, then 5.
+pub fn batch_edges(m: usize, batch: &[u8], edges: &mut [u8]) -> Checked
+    requires { ⌜ maxEdges / 8 ≤ length (now edges) ⌝ }
+    ensures { λ r. ⌜ BatchEdges m (now (batch .entry)) (now (edges .entry)) (now (edges .exit)) r ⌝ }
+{
+    let mut levels = no_records();
+    let planned = plan(m, batch, &mut levels);
+    let Checked::Accepted(b) = planned else {
+        return planned;
+    };
+    let len = (b + 7) / 8;
+    fill(batch, m, &mut levels, &mut edges[..len]);
+    Checked::Accepted(b)
+}
+
+// ---- The call
+fn edge_room() -> [u8; MAX_EDGE_BYTES]
+    ensures { λ r. ⌜ length r ≡ maxEdges / 8 ⌝ }
+{
+    [0; MAX_EDGE_BYTES]
+}
+
+// Packs with the counting table and room for the edges lent.
+fn pack_with(m: usize, batch: &[u8], t: &[u16], edges: &mut [u8], out: &mut [u8]) -> Written
+    requires { ⌜ (maxEdges / 8 ≤ length (now edges)) × Tallies (now t) ⌝ }
+    ensures { λ r. ⌜ writtenOutcome r (now (out .exit)) ≡ packCall m (now (batch .entry)) (now (out .entry)) ⌝ }
+{
+    let made = batch_edges(m, batch, edges);
+    match made {
+        Checked::Refused(k) => Written::Refused(k),
+        Checked::Accepted(b) => {
+            let n = (b + 7) / 8;
+            build::write(m, b, &edges[..n], t, out)
+        }
+    }
+}
+
+// Packs a batch of keys of m bits, laid end to end in rising order, to the front of a buffer.
+pub fn pack(m: usize, batch: &[u8], out: &mut [u8]) -> Written
+    ensures { λ r. ⌜ writtenOutcome r (now (out .exit)) ≡ packCall m (now (batch .entry)) (now (out .entry)) ⌝ }
+{
+    let t = bits::tallies();
+    let mut edges = edge_room();
+    pack_with(m, batch, &t, &mut edges, out)
+}
