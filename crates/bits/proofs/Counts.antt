@@ -1,14 +1,14 @@
 -- Set bits of bytes, counted byte by byte.
-use mathlib.Core.Path.{_≡_, refl, sym, ap, ap₂, _∙_}
+use mathlib.Core.Path.{_≡_, sym, ap, _∙_}
 use Prim.Native.Nat.{ℕ, zero, suc, _+_, _-_, _*_, _/_, _%_, _^_, _≤_, _<_}
 use mathlib.Core.Bool.{Bool}
-use mathlib.Core.List.{List, [], _∷_, _++_, append-nil, append-assoc}
+use mathlib.Core.List.{[], _∷_, _++_, append-nil, append-assoc}
 use native.Mathlib.Omega.{arith}
 use native.Mathlib.Nat.{pow-suc, div-div-eq-div-mul, div-le-self}
 use lib.ListN.{length, take, drop, getD}
 use lib.Seq.{getD-drop, take-at}
 use lib.Count
-use Rattle.loes.specs.Bytes.{Bytes, bit, odd, tabulate, bitAt, bitsIn, bitsValue}
+use Rattle.loes.specs.Bytes.{Bytes, odd, tabulate, bitAt, bitsIn, bitsValue}
 use Rattle.loes.specs.Edges.{ones, onesBefore}
 use Rattle.loes.proofs.Lists.{ones-append}
 use Rattle.loes.proofs.Bytes.{length-tabulate}

@@ -1,11 +1,11 @@
 -- A number in bytes is that of its two halves.
-use mathlib.Core.Path.{_≡_, refl, sym, ap, _∙_}
+use mathlib.Core.Path.{_≡_, refl, ap, _∙_}
 use Prim.Native.Nat.{ℕ, zero, suc, _+_, _*_, _^_, _≤_, _<_}
-use mathlib.Core.List.{List, [], _∷_, _++_}
+use mathlib.Core.List.{[], _∷_, _++_}
 use native.Mathlib.Omega.{arith}
-use native.Mathlib.Nat.{pow-succ', mul-assoc, mul-comm}
+use native.Mathlib.Nat.{pow-succ', mul-assoc}
 use lib.ListN.{length, take, drop, getD, length-drop}
-use lib.Seq.{take-add, take-suc, drop-drop, drop-cons, length-take-le, getD-drop}
+use lib.Seq.{take-add, take-suc, drop-drop, drop-cons}
 use Rattle.loes.specs.Bytes.{Bytes, bytesValue, numberAt}
 use Rattle.loes.proofs.Numbers.{value-snoc}
 

@@ -8,7 +8,6 @@ ghost use Rattle.loes.specs.Bytes.{bigEndian, bigEndians, started, bitsIn, fron
 ghost use Rattle.loes.specs.Edges.{ones};
 ghost use Rattle.loes.specs.Encode.{field, blockOnes, subBlockOnes, widthBody, countBody, levelBody, edgeBody, blockBody, subBlockBody, encode};
 ghost use Rattle.loes.specs.Held.{held, Holds};
-ghost use Rattle.loes.proofs.Ends.{roots};
 ghost use Rattle.loes.specs.Model.{writes};
 ghost use Rattle.loes.specs.Read.{levelBytes, edgeBytes, blockBytes, subBlockBytes, endOf};
 ghost use Rattle.bits.specs.Tables.{Tallies};
@@ -112,19 +111,12 @@ fn ones_at(edges: &[u8], t: &[u16], s: Seen, o: usize) -> usize
     s.ones + t[x >> (8 - k)] as usize % 1024
 }
 
-// The records of level 0.
-fn roots_of(b: usize) -> usize
-    ensures { λ r. ⌜ r ≡ roots b ⌝ }
-{
-    if b > 0 { 1 } else { 0 }
-}
-
 // Where each level ends; returns the number of members.
 fn level_ends(edges: &[u8], t: &[u16], m: usize, b: usize, ends: &mut [usize]) -> usize
     requires { ⌜ Holds m b (now edges) × Tallies (now t) × (length (now edges) ≤ 65535) × (m ≤ length (now ends)) ⌝ }
     ensures { λ r. ⌜ Shaped m b (now (edges .entry)) (now (ends .exit)) r ⌝ }
 {
-    let c = roots_of(b);
+    let c = encoding::roots_of(b);
     let mut seen = Seen { bytes: 0, ones: 0 };
     let mut n = 0;
     let mut d = 0;

@@ -1,9 +1,9 @@
 -- What the code tests is what 7 asks.
 use mathlib.Core.Path.{_≡_, refl, sym, ap, ap₂, _∙_, subst}
 use mathlib.Core.Logic.{_↔_}
-use Prim.Native.Nat.{ℕ, zero, suc, _+_, _-_, _*_, _/_, _%_, _^_, _≤_, _<_}
+use Prim.Native.Nat.{ℕ, suc, _+_, _-_, _*_, _/_, _%_, _^_, _≤_, _<_}
 use mathlib.Core.Bool.{Bool, true, false, _&&_, _||_, false≢true}
-use mathlib.Core.List.{List, [], _∷_, _++_}
+use mathlib.Core.List.{List, [], _∷_}
 use native.Mathlib.Omega.{arith}
 use lib.ListN.{length, take, drop, getD, length-drop, take-append-drop}
 use lib.Dec.{eqb}
@@ -13,7 +13,7 @@ use Rattle.loes.specs.Keys.{KeySet, members}
 use Rattle.loes.specs.Edges.{ones, edges}
 use Rattle.loes.specs.Entry.{Entry, keysOf, count, edgesOf, edgeCount}
 use Rattle.loes.specs.Encode.{blockOnes, subBlockOnes, levelEnd, edgeBody, encode}
-use Rattle.loes.specs.Read.{start2, start3, start4, start5, start6, widthIn, edgeCountIn, edgesIn, followed, entryIn}
+use Rattle.loes.specs.Read.{start2, start3, start4, widthIn, edgeCountIn, edgesIn, followed, entryIn}
 use Rattle.loes.proofs.Tests.{eq-yes, yes-eq, both, same-self, same-is}
 use Rattle.loes.proofs.Tree.{prefixCount, length-members}
 use Rattle.loes.proofs.Navigation.{recordsBefore, ones-edgesBefore, length-edgesBefore}

@@ -1,5 +1,5 @@
 -- What the public calls answer.
-use mathlib.Core.Path.{_≡_, refl, sym, ap, _∙_}
+use mathlib.Core.Path.{_≡_, sym, _∙_}
 use Prim.Native.Nat.{ℕ, suc, _+_, _≤_, _<_}
 use mathlib.Core.Option.{none, some}
 use native.Mathlib.Omega.{arith}

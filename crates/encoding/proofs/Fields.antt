@@ -1,12 +1,12 @@
 -- Reading the fields: what the code finds is the first test to hold.
 use mathlib.Core.Path.{_≡_, refl, sym, ap, _∙_}
-use Prim.Native.Nat.{ℕ, zero, suc, _+_, _-_, _*_, _≤_, _<_}
+use Prim.Native.Nat.{ℕ, zero, suc, _≤_, _<_}
 use mathlib.Core.Bool.{Bool, true, false, _&&_, cond, not, or-true}
-use mathlib.Core.List.{List, [], _∷_, _++_}
+use mathlib.Core.List.{List, [], _∷_}
 use mathlib.Core.Option.{Option, none, some}
 use native.Mathlib.Omega.{arith}
 use lib.ListN.{length}
-use lib.Dec.{eqb, ltb}
+use lib.Dec.{ltb}
 use Rattle.loes.specs.Refusals.{Tests, test, firstOf}
 use Rattle.loes.specs.Limits.{maxWidth, maxEdges}
 use Rattle.loes.specs.Bytes.{Bytes, join, sameNumbers}
@@ -16,7 +16,6 @@ use Rattle.loes.specs.Read.{levelBytes, start2, start3, start4, widthIn, edgeCo
 use Rattle.loes.proofs.Tests.{lt-yes, lt-no, no-lt, neither, none-append, none-test, none-first, some-first}
 use Rattle.loes.proofs.Reading.{field-fits}
 use Rattle.encoding.specs.declared.Encoding.{Encoding}
-use Rattle.encoding.specs.declared.Laid.{Laid}
 use Rattle.encoding.specs.declared.Laid.the-variants.{Length, Refused}
 use Rattle.encoding.specs.Fields.{refusalOf, bodyBytes, laidBy, Fields}
 

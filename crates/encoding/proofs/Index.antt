@@ -1,10 +1,10 @@
 -- Set bits before an offset: those before its block, those before its sub-block, whole bytes, and a part of a byte.
-use mathlib.Core.Path.{_≡_, refl, sym, ap, ap₂, _∙_}
-use Prim.Native.Nat.{ℕ, zero, suc, _+_, _-_, _*_, _/_, _%_, _^_, _≤_, _<_}
+use mathlib.Core.Path.{_≡_, sym, ap, ap₂, _∙_}
+use Prim.Native.Nat.{ℕ, suc, _+_, _-_, _*_, _/_, _%_, _^_, _≤_, _<_}
 use mathlib.Core.Bool.{Bool}
 use mathlib.Core.List.{List}
 use native.Mathlib.Omega.{arith}
-use lib.ListN.{length, take, drop, getD}
+use lib.ListN.{take, drop, getD}
 use lib.Seq.{take-add, drop-drop, getD-drop}
 use Rattle.loes.specs.Bytes.{Bytes, bitsIn}
 use Rattle.loes.specs.Edges.{ones, onesBefore}

@@ -1,15 +1,15 @@
 -- The last byte, if it is not whole.
-use mathlib.Core.Path.{_≡_, refl, sym, ap, _∙_}
-use Prim.Native.Nat.{ℕ, zero, suc, _+_, _-_, _*_, _/_, _%_, _^_, _≤_, _<_}
-use mathlib.Core.Bool.{Bool, true, false, not, false≢true}
+use mathlib.Core.Path.{_≡_, refl, ap, _∙_}
+use Prim.Native.Nat.{ℕ, _+_, _-_, _*_, _/_, _%_, _^_, _≤_, _<_}
+use mathlib.Core.Bool.{Bool, true, false, not}
 use native.Mathlib.Omega.{arith}
-use lib.ListN.{length, drop, getD}
+use lib.ListN.{drop, getD}
 use lib.Seq.{getD-drop}
 use Rattle.loes.specs.Bytes.{Bytes, bit, tabulate, bitsIn}
 use Rattle.loes.specs.Edges.{ones}
 use Rattle.bits.specs.Tables.{noneEmpty, tallyOf}
 use Rattle.bits.proofs.Counts.{byte-bits, ones-bits-le}
-use Rattle.bits.proofs.Part.{frontBits, front-small, front-tally}
+use Rattle.bits.proofs.Part.{frontBits, front-tally}
 use Rattle.encoding.specs.declared.Encoding.{Encoding}
 use Rattle.encoding.specs.Agree.{lastEdges, LastRight}
 

@@ -1,7 +1,7 @@
 -- What follows for an opened encoding.
-use mathlib.Core.Path.{_≡_, refl, sym, ap, ap₂, _∙_, subst}
-use Prim.Native.Nat.{ℕ, zero, suc, _+_, _-_, _*_, _/_, _<_, _≤_}
-use mathlib.Core.Bool.{Bool, false}
+use mathlib.Core.Path.{_≡_, refl, sym, ap, _∙_, subst}
+use Prim.Native.Nat.{ℕ, suc, _+_, _-_, _*_, _/_, _<_, _≤_}
+use mathlib.Core.Bool.{false}
 use native.Mathlib.Omega.{arith}
 use native.Mathlib.Nat.{le-div-iff-mul-le, mul-comm, suc-mul}
 use lib.ListN.{length, drop, getD, length-drop}
@@ -9,7 +9,7 @@ use Rattle.loes.specs.Limits.{maxWidth, maxEdges, blockBits, subBlockBits}
 use Rattle.loes.specs.Bytes.{Bytes, started, numberAt, bitAt, bitsIn}
 use Rattle.loes.specs.Entry.{Entry, edgesOf, edgeCount, Valid}
 use Rattle.loes.specs.Encode.{blockOnes, subBlockOnes, encode}
-use Rattle.loes.specs.Read.{start4, start5, start6, endOf, widthIn, edgeCountIn, edgesIn, followed, entryIn, opened, read}
+use Rattle.loes.specs.Read.{start4, start5, start6, endOf, edgesIn, followed, entryIn, opened}
 use Rattle.loes.specs.Held.{held, Holds}
 use Rattle.loes.proofs.Bytes.{getD-tabulate}
 use Rattle.loes.proofs.Reading.{reads-exactly, encode-length, edges-read}

@@ -1,13 +1,13 @@
 -- The pass over the whole edge bytes.
 use mathlib.Core.Path.{_≡_, refl, sym, ap, ap₂, _∙_}
-use Prim.Native.Nat.{ℕ, zero, suc, _+_, _-_, _*_, _/_, _%_, _≤_, _<_, min}
+use Prim.Native.Nat.{ℕ, suc, _+_, _-_, _*_, _/_, _%_, _≤_, _<_, min}
 use mathlib.Core.Bool.{Bool, true, _&&_}
 use mathlib.Core.List.{List}
 use native.Mathlib.Omega.{arith}
 use native.Mathlib.Decide.{decLe}
 use lib.ListN.{length, drop}
 use lib.Seq.{drop-drop}
-use Rattle.loes.specs.Limits.{blockBits, subBlockBits}
+use Rattle.loes.specs.Limits.{subBlockBits}
 use Rattle.loes.specs.Bytes.{Bytes, tabulate, started, numberAt, bitsIn}
 use Rattle.loes.specs.Edges.{ones, onesBefore}
 use Rattle.loes.specs.Encode.{blockOnes, subBlockOnes}

@@ -3,6 +3,7 @@ use mathlib.Core.Path.{_≡_}
 use Prim.Native.Nat.{ℕ, suc, _+_, _*_, _/_, _%_, _^_, _-_, _<_}
 use mathlib.Core.Bool.{Bool, true}
 use lib.ListN.{getD, drop}
+use Rattle.loes.specs.Limits.{blockBits, subBlockBits}
 use Rattle.loes.specs.Bytes.{Bytes, numberAt, bitsIn}
 use Rattle.loes.specs.Edges.{ones}
 use Rattle.loes.specs.Read.{start3}
@@ -17,11 +18,15 @@ use Rattle.encoding.specs.Opened.{edgesAt, Counted}
 abbrev pub Tells : Bool → Type 0 → Type 0
 Tells r P = (r ≡ true → P) × (P → r ≡ true)
 
+-- the sub-blocks of a block
+abbrev pub subBlocks : ℕ
+subBlocks = blockBits / subBlockBits
+
 -- the entries of sub-block j and of its block, against n set bits before it
 abbrev pub EntriesAt : Bytes → Encoding → ℕ → ℕ → Type 0
 EntriesAt l e j n =
-    (numberAt 8 l (e .blocks + 8 * (j / 128)) + numberAt 2 l (e .«sub_blocks» + 2 * j) ≡ n)
-    × (j % 128 ≡ 0 → numberAt 8 l (e .blocks + 8 * (j / 128)) ≡ n)
+    (numberAt 8 l (e .blocks + 8 * (j / subBlocks)) + numberAt 2 l (e .«sub_blocks» + 2 * j) ≡ n)
+    × (j % subBlocks ≡ 0 → numberAt 8 l (e .blocks + 8 * (j / subBlocks)) ≡ n)
 
 -- the whole edge bytes: fields 5 and 6 are right, no record is empty, and so many bits are set
 abbrev pub WholeRight : Bytes → Encoding → Type 0

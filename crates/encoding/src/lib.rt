@@ -18,6 +18,7 @@ ghost use Rattle.encoding.specs.Fields.{refusalOf, bodyBytes, laidBy, Fi
 ghost use Rattle.encoding.specs.Agree.{Tells, EntriesAt, Whole, Last, Levelled};
 ghost use Rattle.encoding.specs.Answers.{toldOutcome, rankedOutcome};
 use bits::EdgeOffset;
+use loes::refusal;
 
 // The numbers of an encoding, and where the bodies of fields 4 to 6 begin.
 pub struct Encoding {
@@ -32,28 +33,11 @@ pub struct Encoding {
     pub sub_blocks: usize,
 }
 
-// Refused, with the number of a refusal.
-const TRUNCATED: u8 = 1;
-
-const WRONG_TAG: u8 = 2;
-
-const WRONG_LENGTH: u8 = 3;
-
-const BAD_WIDTH: u8 = 4;
-
-const TOO_LARGE: u8 = 5;
-
-const TRAILING_BYTES: u8 = 6;
-
-const NOT_AN_ENCODING: u8 = 7;
-
-const OUT_OF_RANGE: u8 = 9;
-
 // The bytes of a field's tag and length.
 const HEAD: usize = 3;
-// Where the bodies of fields 2 and 3 begin; that of field 1 begins behind its head.
+// Where the body of field 2 begins; that of field 1 begins behind its head.
 const COUNT: usize = 8;
-
+// Where the body of field 3 begins.
 const LEVELS: usize = 15;
 // The edge bytes of a sub-block.
 const SUB_BLOCK_BYTES: usize = Encoding::SUB_BLOCK_BITS / 8;
@@ -75,9 +59,9 @@ impl Encoding {
     pub const MAX_WIDTH: usize = 256;
     // The most bits that an edge sequence may have.
     pub const MAX_EDGES: usize = 524_280;
-    // The edge bits of a block and of a sub-block.
+    // The edge bits of a block.
     pub const BLOCK_BITS: usize = 65_536;
-
+    // The edge bits of a sub-block.
     pub const SUB_BLOCK_BITS: usize = 512;
 
     // Of width m, n keys and b edge bits: each field begins behind the one before it.
@@ -117,7 +101,7 @@ fn laid_by(tag: u8, width: usize, bits: usize) -> Laid
         4 => Laid::Length(started_by(bits, 8)),
         5 => Laid::Length(8 * started_by(bits, Encoding::BLOCK_BITS)),
         6 => Laid::Length(2 * started_by(bits, Encoding::SUB_BLOCK_BITS)),
-        0 | 7..=255 => Laid::Refused(WRONG_TAG),
+        0 | 7..=255 => Laid::Refused(refusal::WRONG_TAG),
     }
 }
 
@@ -128,20 +112,20 @@ fn field_refusal(l: &[u8], at: usize, turn: u8, width: usize, bits: usize) -> u8
 {
     let left = l.len() - at;
     if left < HEAD {
-        return TRUNCATED;
+        return refusal::TRUNCATED;
     }
     let tag = l[at];
     match laid_by(tag, width, bits) {
         Laid::Refused(k) => k,
         Laid::Length(n) => {
             if tag != turn {
-                return WRONG_TAG;
+                return refusal::WRONG_TAG;
             }
             if bits::number2(l, at + 1) != n {
-                return WRONG_LENGTH;
+                return refusal::WRONG_LENGTH;
             }
             if left - HEAD < n {
-                return TRUNCATED;
+                return refusal::TRUNCATED;
             }
             0
         }
@@ -158,10 +142,10 @@ fn head_refusal(l: &[u8]) -> u8
     }
     let width = bits::number2(l, HEAD);
     if width == 0 {
-        return BAD_WIDTH;
+        return refusal::BAD_WIDTH;
     }
     if Encoding::MAX_WIDTH < width {
-        return BAD_WIDTH;
+        return refusal::BAD_WIDTH;
     }
     let second = field_refusal(l, COUNT - HEAD, 2, width, 0);
     if second != 0 {
@@ -172,7 +156,7 @@ fn head_refusal(l: &[u8]) -> u8
         return third;
     }
     if Encoding::MAX_EDGES < bits::number4(l, LEVELS + 4 * (width - 1)) {
-        return TOO_LARGE;
+        return refusal::TOO_LARGE;
     }
     0
 }
@@ -195,7 +179,7 @@ fn tail_refusal(l: &[u8], e: Encoding) -> u8
         return sixth;
     }
     if e.sub_blocks + 2 * started_by(e.bits, Encoding::SUB_BLOCK_BITS) < l.len() {
-        return TRAILING_BYTES;
+        return refusal::TRAILING_BYTES;
     }
     0
 }
@@ -251,6 +235,7 @@ pub enum Tallied {
     Ones(usize),
 }
 
+// The lesser of two numbers.
 fn lesser(x: usize, y: usize) -> usize
     ensures { λ r. ⌜ r ≡ min x y ⌝ }
 {
@@ -258,7 +243,7 @@ fn lesser(x: usize, y: usize) -> usize
 }
 
 // The records of level 0: one, or none in the empty set.
-fn roots_of(bits: usize) -> usize
+pub fn roots_of(bits: usize) -> usize
     ensures { λ r. ⌜ (r ≡ roots bits) × (r ≤ 1) ⌝ }
 {
     if 0 < bits { 1 } else { 0 }
@@ -372,6 +357,7 @@ fn agrees(l: &[u8], t: &[u16], e: Encoding) -> bool
     if !levels_agree(l, t, e) {
         return false;
     }
+    // Each set bit above the last level makes a record, the others are the keys'.
     e.count + e.bits / 2 == roots_of(e.bits) + n + k
 }
 
@@ -386,7 +372,7 @@ pub fn check(l: &[u8], t: &[u16]) -> Checked
             if agrees(l, t, e) {
                 return Checked::Opened(e);
             }
-            Checked::Refused(NOT_AN_ENCODING)
+            Checked::Refused(refusal::NOT_AN_ENCODING)
         }
     }
 }
@@ -439,7 +425,7 @@ pub fn rank(l: &[u8], o: EdgeOffset) -> Ranked
         Checked::Refused(k) => Ranked::Refused(k),
         Checked::Opened(e) => {
             if e.bits <= o.0 {
-                return Ranked::Refused(OUT_OF_RANGE);
+                return Ranked::Refused(refusal::OUT_OF_RANGE);
             }
             Ranked::Rank(ones_before(l, &t, e, EdgeOffset(o.0 + 1)))
         }

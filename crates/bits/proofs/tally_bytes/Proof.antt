@@ -1,8 +1,8 @@
 use denote.Ref.{now}
 use native.Mathlib.Omega.{arith}
-use mathlib.Core.Path.{_≡_, refl, ap, _∙_}
-use Prim.Native.Nat.{ℕ, _+_, _-_, _*_, _<_, _≤_}
-use lib.ListN.{length, drop, getD}
+use mathlib.Core.Path.{_≡_}
+use Prim.Native.Nat.{ℕ, _-_, _<_, _≤_}
+use lib.ListN.{drop, getD}
 use Rattle.bits.specs.Tables.{tally, tallyOf}
 use Rattle.bits.proofs.Tally.{tally-le, tally-more}
 use Rattle.bits.proofs.tally_bytes.Statement.{statement}

@@ -55,7 +55,7 @@ roots-of-requires c κs = tt
 
 loop-holds : tie.Need-loop-holds Inv-loop μ-loop
 unfolding ends onesBefore bitsIn tabulate ones
-loop-holds c = ((omega arith, refl, c .roots-of .ensures), (refl, refl, refl), λ j k. absurd (omega arith))
+loop-holds c = ((omega arith, refl, c .roots-of .ensures .0), (refl, refl, refl), λ j k. absurd (omega arith))
 
 add-end : tie.Need-add-end Inv-loop μ-loop
 add-end c = omega (arith, next (c .before) (omega arith), fits (c .before) (omega arith), start (c .before) .pre .0 .few)

@@ -6,7 +6,7 @@ use lib.Dec.{eqb, ltb}
 use borrow.Author.Tests.{eq-eqb, ne-eqb}
 use Rattle.loes.specs.Bytes.{numberAt}
 use Rattle.encoding.specs.Fields.{refusalOf, bodyBytes, laidBy}
-use mathlib.Core.Path.{_≡_, refl, sym, ap, _∙_}
+use mathlib.Core.Path.{_≡_, sym, ap, _∙_}
 use Rattle.loes.specs.Refusals.{test, firstOf}
 use Rattle.loes.specs.Read.{fieldTests}
 use Rattle.loes.proofs.Tests.{lt-yes, lt-no}

@@ -1,13 +1,12 @@
 use denote.Ref.{now}
-use mathlib.Core.Path.{_≡_, refl, ap, _∙_}
+use mathlib.Core.Path.{_≡_, _∙_}
 use Prim.Native.Nat.{ℕ, _+_, _-_, _*_, _/_, _%_, _^_, _≤_, _<_}
 use native.Mathlib.Omega.{arith}
 use lib.ListN.{length, getD}
 use Rattle.loes.specs.Edges.{ones, onesBefore}
-use Rattle.loes.specs.Encode.{blockOnes, subBlockOnes}
+use Rattle.loes.specs.Encode.{blockOnes}
 use Rattle.loes.proofs.Seven.{before-le}
 use Rattle.bits.proofs.Counts.{shift-small}
-use Rattle.bits.specs.Tables.{tallyOf}
 use Rattle.encoding.specs.Opened.{edgesAt}
 use Rattle.encoding.proofs.Opened.{room-at, length-edgesAt}
 use Rattle.encoding.proofs.Index.{ones-by-index}

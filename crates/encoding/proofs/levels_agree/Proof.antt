@@ -3,7 +3,6 @@ use mathlib.Core.Path.{_≡_, refl, sym, ap, ap₂, _∙_}
 use mathlib.Core.Bool.{false≢true}
 use Prim.Native.Nat.{ℕ, suc, _+_, _-_, _*_, _≤_, _<_, min}
 use native.Mathlib.Omega.{arith}
-use lib.ListN.{length}
 use Rattle.loes.specs.Bytes.{numberAt}
 use Rattle.loes.specs.Edges.{onesBefore}
 use Rattle.loes.proofs.Ends.{roots, ends}

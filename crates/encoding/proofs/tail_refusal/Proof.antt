@@ -1,13 +1,13 @@
 use denote.Ref.{now}
-use mathlib.Core.Path.{_≡_, refl, sym, ap, _∙_}
+use mathlib.Core.Path.{_≡_}
 use mathlib.Core.List.{[], _∷_}
-use mathlib.Core.Option.{Option, none}
-use Prim.Native.Nat.{ℕ, _+_, _-_, _*_, _≤_, _<_}
+use mathlib.Core.Option.{Option}
+use Prim.Native.Nat.{ℕ, _+_, _-_, _*_, _≤_}
 use native.Mathlib.Omega.{arith}
 use lib.ListN.{length}
 use lib.Dec.{ltb}
 use borrow.Author.Needs.{needs}
-use Rattle.loes.specs.Bytes.{started, join}
+use Rattle.loes.specs.Bytes.{join}
 use Rattle.loes.specs.Refusals.{test, firstOf}
 use Rattle.loes.specs.Read.{edgeBytes, blockBytes, subBlockBytes, start4, start5, start6, endOf, fieldTests, tailTests}
 use Rattle.loes.proofs.Tests.{lt-yes, lt-no}

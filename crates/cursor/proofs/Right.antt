@@ -1,0 +1,85 @@
+-- The paths of members are the paths that lead.
+use mathlib.Core.Path.{_≡_, refl, sym, ap, _∙_}
+use Prim.Native.Nat.{ℕ, zero, suc, _≤_, _<_}
+use mathlib.Core.Bool.{Bool, true, false, _||_, false≢true, or-true}
+use mathlib.Core.List.{List, [], _∷_, _++_}
+use native.Mathlib.Omega.{arith}
+use lib.ListN.{length, take, getD}
+use lib.Seq.{take-suc, take-all}
+use Rattle.loes.specs.Bytes.{tabulate, sameNumbers}
+use Rattle.loes.specs.Keys.{Key, any, members}
+use Rattle.loes.specs.Edges.{edges, edgeOffsets}
+use Rattle.loes.specs.Entry.{Entry, keysOf, count, edgesOf}
+use Rattle.loes.specs.Cursor.{pathOf}
+use Rattle.loes.proofs.Tests.{same-self, same-is}
+use Rattle.loes.proofs.Members.{inside-at}
+use Rattle.loes.proofs.Bytes.{getD-tabulate}
+use Rattle.loes.proofs.Tree.{inhabited, prefixesBefore, prefix-whole, members-at, index-lt}
+use Rattle.query.specs.Paths.{Leading, keyOf}
+use Rattle.query.proofs.Paths.{key-length, offsets-are, leading-ext, leading-less, ofKey, key-of, member-leads, lead-some}
+use Rattle.cursor.proofs.Moves.{path-prefix}
+
+any-at : {A : Type 0} (f : A → Bool) (l : List A) (i : ℕ) (d : A) → i < length l → f (getD l i d) ≡ true → any f l ≡ true
+unfolding any
+any-at f [] i d h g = absurd (omega arith)
+any-at f (x ∷ l) zero d h g = rw g
+any-at f (x ∷ l) (suc i) d h g = rw (any-at f l i d (omega arith) g) (or-true (f x))
+
+any-is : {A : Type 0} (f : A → Bool) (l : List A) (d : A) → any f l ≡ true → (i : ℕ) × (i < length l) × (f (getD l i d) ≡ true)
+unfolding any
+any-is f [] d h = absurd (false≢true h)
+any-is {A} f (x ∷ l) d h = go (f x) refl h (any-is f l d)
+  where
+    go : (b : Bool) → f x ≡ b → (b || any f l) ≡ true → (any f l ≡ true → (i : ℕ) × (i < length l) × (f (getD l i d) ≡ true))
+        → (i : ℕ) × (i < suc (length l)) × (f (getD (x ∷ l) i d) ≡ true)
+    go true z h g = (0, omega arith, z)
+    go false z h g = let r = g h in (suc (r .0), omega (arith, r .1), r .2)
+
+-- the first n of a list, by place
+pub take-tabulate : (l : List ℕ) (n : ℕ) → n ≤ length l → take n l ≡ tabulate (λ (i : ℕ). getD l i 0) n
+unfolding tabulate
+take-tabulate l zero h = refl
+take-tabulate l (suc n) h = take-suc l n 0 h ∙ ap (λ x. x ++ getD l n 0 ∷ []) (take-tabulate l n (omega arith))
+
+-- the key of a place, and its path
+module _ (e : Entry) (os : List ℕ) (pos : 0 < e .width) (long : e .width ≤ length os) (h : Leading (edgesOf e) (e .width) (λ (i : ℕ). getD os i 0)) where
+  abbrev m : ℕ
+  m = e .width
+
+  abbrev g : ℕ → ℕ
+  g = λ (i : ℕ). getD os i 0
+
+  pub lead-inhabited : inhabited (e .width) (e .set) ≡ true
+  unfolding edgesOf
+  lead-inhabited = lead-some m (e .set) g pos (leading-less (edges m (e .set)) g m 1 pos h)
+
+  pub lead-in : e .set (keyOf (λ (i : ℕ). getD os i 0) (e .width)) ≡ true
+  unfolding edgesOf
+  lead-in = sym (prefix-whole (keyOf g m) m (e .set) (key-length g m)) ∙ path-prefix m (e .set) lead-inhabited g m (omega arith) h .0
+
+  pub lead-path : pathOf e (keyOf (λ (i : ℕ). getD os i 0) (e .width)) ≡ take (e .width) os
+  unfolding pathOf edgesOf
+  lead-path = offsets-are (edges m (e .set)) g m h .0 ∙ sym (take-tabulate os m long)
+
+  pub lead-right : any (λ (k : Key). sameNumbers (pathOf e k) (take (e .width) os)) (keysOf e) ≡ true
+  unfolding keysOf
+  lead-right =
+      any-at (λ (k : Key). sameNumbers (pathOf e k) (take (e .width) os)) (members m (e .set)) (prefixesBefore (keyOf g m) m (e .set)) []
+      (index-lt (keyOf g m) m (e .set) (key-length g m) lead-in)
+      (rw (members-at (keyOf g m) m (e .set) (key-length g m) lead-in, lead-path) (same-self (take (e .width) os)))
+
+pub right-leads : (e : Entry) (os : List ℕ) → e .width ≤ length os → any (λ (k : Key). sameNumbers (pathOf e k) (take (e .width) os)) (keysOf e) ≡ true
+    → Leading (edgesOf e) (e .width) (λ (i : ℕ). getD os i 0)
+unfolding edgesOf pathOf count
+right-leads e os long h =
+    let r = any-is (λ (k : Key). sameNumbers (edgeOffsets (edges (e .width) (e .set)) 0 k) (take (e .width) os)) (keysOf e) [] h in
+    let k : Key = getD (keysOf e) (r .0) [] in
+    let n = inside-at e (r .0) (r .1) in
+    let q : edgeOffsets (edges (e .width) (e .set)) 0 k ≡ take (e .width) os = same-is (edgeOffsets (edges (e .width) (e .set)) 0 k) (take (e .width) os) (r .2) in
+    let f : ℕ → ℕ = ofKey (e .width) (e .set) k in
+    let a = member-leads (e .width) (e .set) k (n .0) (n .1) (e .width) (omega arith) .0 in
+    let kk : keyOf (ofKey (e .width) (e .set) k) (e .width) ≡ k = key-of (e .width) (e .set) k (e .width) (omega (arith, n .0)) ∙ take-all (e .width) k (omega (arith, n .0)) in
+    let t : tabulate (ofKey (e .width) (e .set) k) (e .width) ≡ tabulate (λ (i : ℕ). getD os i 0) (e .width) =
+    sym (offsets-are (edges (e .width) (e .set)) (ofKey (e .width) (e .set) k) (e .width) a .0) ∙ ap (edgeOffsets (edges (e .width) (e .set)) 0) kk ∙ q ∙ take-tabulate os (e .width) long in
+    leading-ext (edges (e .width) (e .set)) (ofKey (e .width) (e .set) k) (λ (i : ℕ). getD os i 0) (e .width)
+    (λ i l. sym (getD-tabulate (ofKey (e .width) (e .set) k) (e .width) i 0 l) ∙ ap (λ x. getD x i 0) t ∙ getD-tabulate (λ (i : ℕ). getD os i 0) (e .width) i 0 l) a

@@ -1,0 +1,155 @@
+-- What a step does, from each kind of cursor.
+use mathlib.Core.Path.{_≡_, refl, sym, ap, ap₂, _∙_}
+use Prim.Native.Nat.{ℕ, zero, suc, _+_, _-_, _≤_, _<_}
+use mathlib.Core.Bool.{true, false}
+use mathlib.Core.List.{List, [], _∷_, _++_, map, map-append}
+use native.Mathlib.Omega.{arith}
+use lib.ListN.{length, take, drop, getD, replicate}
+use lib.Seq.{drop-append-add}
+use Rattle.loes.specs.Bytes.{Bytes, odd, tabulate, packBits, front}
+use Rattle.loes.specs.Keys.{smaller}
+use Rattle.loes.specs.Entry.{Entry, keyBytes, keysOf, count, edgesOf, edgeCount, Valid}
+use Rattle.loes.specs.Refusals.{shortBuffer, badCursor, test, firstOf}
+use Rattle.loes.specs.Model.{refused, wroteKey}
+use Rattle.loes.specs.Cursor.{Cursor, before, at, after, allZero, padded, pathOf, isCursorOf, keyOfPath, nextIndex, hasNext, stays, staysOr, advanceTests, advance}
+use Rattle.loes.proofs.Tests.{lt-yes, both}
+use Rattle.loes.proofs.Tree.{length-members}
+use Rattle.loes.proofs.Cursors.{noOffsets, cursorAt, right-none, right-is, right-bare, advance-on, advance-out}
+use Rattle.query.specs.Paths.{keyOf, pathKey}
+use Rattle.query.proofs.Descent.{inhabited-none, count-none}
+use Rattle.query.proofs.Ascent.{path-size, key-back}
+use Rattle.cursor.specs.Moves.{TurnsAt, Moved, Movable, indexIn, hasPath}
+use Rattle.cursor.proofs.Right.{take-tabulate}
+use Rattle.cursor.proofs.Onward.{below-edges, next-none, next-some, movable, next-path}
+use Rattle.cursor.proofs.Outset.{first-some}
+
+pub positive : (n : ℕ) → (n ≡ 0 → ⊥) → 0 < n
+positive zero h = absurd (h refl)
+positive (suc n) h = omega arith
+
+map-tabulate : {A B : Type 0} (f : A → B) (g : ℕ → A) (n : ℕ) → map f (tabulate g n) ≡ tabulate (λ (i : ℕ). f (g i)) n
+unfolding tabulate
+map-tabulate f g zero = refl
+map-tabulate f g (suc n) = map-append f (tabulate g n) (g n ∷ []) ∙ ap (λ x. x ++ f (g n) ∷ []) (map-tabulate f g n)
+
+key-map : (os : List ℕ) (m : ℕ) → m ≤ length os → map odd (take m os) ≡ pathKey os m
+unfolding pathKey keyOf
+key-map os m h = ap (map odd) (take-tabulate os m h) ∙ map-tabulate odd (λ (i : ℕ). getD os i 0) m
+
+-- a path of one more level or as many in front of another, with zeros behind
+drop-zeros : (k n : ℕ) → drop {A = ℕ} k (replicate n 0) ≡ replicate (n - k) 0
+drop-zeros zero n = let z : n - 0 ≡ n = omega arith in rw z
+drop-zeros (suc k) zero = let z : 0 - suc k ≡ 0 = omega arith in rw z
+drop-zeros (suc k) (suc n) = let z : suc n - suc k ≡ n - k = omega arith in rw z (drop-zeros k n)
+
+pad-front : (x y : List ℕ) → length y ≤ length x → front x (padded y) ≡ padded x
+unfolding padded front
+pad-front x y h =
+    let k : length x ≡ length y + (length x - length y) = omega arith in
+    let z : 256 - length y - (length x - length y) ≡ 256 - length x = omega arith in
+    ap (λ l. x ++ l) (ap (λ n. drop n (y ++ replicate (256 - length y) 0)) k ∙ drop-append-add y (replicate (256 - length y) 0) (length x - length y)
+    ∙ drop-zeros (length x - length y) (256 - length y) ∙ ap (λ n. replicate n 0) z)
+
+-- ---- Refusals
+pub step-wrong : (e : Entry) (p : Cursor) (out : Bytes) → isCursorOf e p ≡ false → record { answer = refused badCursor; buffer = out; cursor = p } ≡ advance e p out
+unfolding advance advanceTests hasNext firstOf test staysOr stays
+step-wrong e p out r = rw r
+
+step-short : (e : Entry) (p : Cursor) (out : Bytes) (j : ℕ) → isCursorOf e p ≡ true → nextIndex e p ≡ j → j < count e → length out < keyBytes (e .width)
+    → record { answer = refused shortBuffer; buffer = out; cursor = p } ≡ advance e p out
+unfolding advance advanceTests hasNext firstOf test staysOr stays
+step-short e p out j r n h g = rw (r, n, lt-yes j (count e) h, lt-yes (length out) (keyBytes (e .width)) g)
+
+-- ---- To after
+step-out : (e : Entry) (p k : Cursor) (out : Bytes) → isCursorOf e p ≡ true → count e ≤ nextIndex e p → k ≡ record { state = after; offsets = replicate 256 0 }
+    → record { answer = wroteKey 0; buffer = out; cursor = k } ≡ advance e p out
+unfolding noOffsets padded
+step-out e p k out r n q = ap (λ x. record { answer = wroteKey 0; buffer = out; cursor = x }) q ∙ sym (advance-out e p out r n)
+
+-- ---- To member j, whose path goes in front of another
+step-on : (e : Entry) → Valid e → (p k : Cursor) (y os os' : List ℕ) (out out' : Bytes) (j m n : ℕ) → isCursorOf e p ≡ true → nextIndex e p ≡ j → j < count e
+    → os ≡ padded y → length y ≤ e .width → os' ≡ front (pathOf e (getD (keysOf e) j [])) os → k ≡ record { state = at; offsets = os' }
+    → m ≡ e .width → keyBytes m ≤ length out → n ≡ keyBytes m → out' ≡ front (packBits (pathKey os' m)) out
+    → record { answer = wroteKey n; buffer = out'; cursor = k } ≡ advance e p out
+unfolding cursorAt
+step-on e v p k y os os' out out' j m n r i lt ey ly eo ek em room en ew =
+    let x = path-size e v j lt in
+    let kb : pathKey os' m ≡ getD (keysOf e) j [] = rw (em, eo) (key-back e v j lt os) in
+    let pf : os' ≡ padded (pathOf e (getD (keysOf e) j [])) = eo ∙ ap (front (pathOf e (getD (keysOf e) j []))) ey ∙ pad-front (pathOf e (getD (keysOf e) j [])) y (omega (arith, x)) in
+    ap (λ c. record { answer = wroteKey n; buffer = out'; cursor = c }) (ek ∙ ap (λ l. record { state = at; offsets = l }) pf)
+    ∙ ap₂ (λ b l. record { answer = wroteKey b; buffer = l; cursor = cursorAt e j }) (en ∙ ap keyBytes em) (ew ∙ ap (λ l. front (packBits l) out) kb)
+    ∙ sym (advance-on e p out j r i lt (rw (← em) room))
+
+-- ---- From a member's path
+module _ (e : Entry) (v : Valid e) (p : Cursor) (os : List ℕ) (is : p ≡ record { state = at; offsets = os }) (len : length os ≡ 256) (r : isCursorOf e p ≡ true) where
+  pub at-path : hasPath e os ≡ true
+  unfolding isCursorOf hasPath
+  at-path = both _ _ (ap (isCursorOf e) (sym is) ∙ r) .0
+
+  pub at-long : e .width ≤ length os
+  at-long = omega (arith, v .narrow, len)
+
+  next-is : nextIndex e p ≡ suc (indexIn e os)
+  unfolding nextIndex keyOfPath indexIn
+  next-is = ap (nextIndex e) is ∙ ap (λ k. suc (smaller k (keysOf e))) (key-map os (e .width) at-long)
+
+  module _ (m b : ℕ) (em : m ≡ e .width) (eb : b ≡ edgeCount e) where
+    pub at-below : (m ≤ length os) × ((j : ℕ) → j < m → getD os j 0 < b)
+    at-below = (omega (arith, at-long), λ j x. let z = below-edges e v os at-long at-path j (omega (arith, em)) in omega (arith, z))
+
+    module _ (t : ℕ) (q : TurnsAt (edgesOf e) m os t) where
+      turned : TurnsAt (edgesOf e) (e .width) os t
+      turned = rw em at q
+
+      pub at-last : (k : Cursor) (out : Bytes) → t ≡ 0 → k ≡ record { state = after; offsets = replicate 256 0 } → record { answer = wroteKey 0; buffer = out; cursor = k } ≡ advance e p out
+      at-last k out z w = let n = next-none e v os at-long at-path (rw z at turned) in step-out e p k out r (omega (arith, n, next-is)) w
+
+      module _ (pos : 0 < t) where
+        pub at-short : (out : Bytes) → length out < keyBytes m → record { answer = refused shortBuffer; buffer = out; cursor = p } ≡ advance e p out
+        at-short out g = step-short e p out (suc (indexIn e os)) r next-is (next-some e v os at-long at-path t turned pos) (rw em at g)
+
+        pub at-movable : Movable b m (t - 1) os
+        at-movable = rw (em, eb) (movable e v os at-long at-path t turned pos)
+
+        pub at-next : (k : Cursor) (os' : List ℕ) (out out' : Bytes) (n : ℕ) → Moved (edgesOf e) m (t - 1) os os' → k ≡ record { state = at; offsets = os' }
+            → keyBytes m ≤ length out → n ≡ keyBytes m → out' ≡ front (packBits (pathKey os' m)) out → record { answer = wroteKey n; buffer = out'; cursor = k } ≡ advance e p out
+        unfolding cursorAt
+        at-next k os' out out' n w ek =
+            let i = right-is e os len (ap (isCursorOf e) (sym is) ∙ r) in
+            step-on e v p k (pathOf e (getD (keysOf e) (i .0) [])) os os' out out' (suc (indexIn e os)) m n r next-is (next-some e v os at-long at-path t turned pos)
+            (ap (λ c. c .offsets) (i .2)) (omega (arith, path-size e v (i .0) (i .1))) (next-path e v os at-long at-path t turned pos os' (rw em at w)) ek em
+
+-- ---- From before
+module _ (e : Entry) (v : Valid e) (p : Cursor) (is : p ≡ record { state = before; offsets = replicate 256 0 }) where
+  right : isCursorOf e p ≡ true
+  unfolding noOffsets padded
+  right = ap (isCursorOf e) is ∙ right-none e .0
+
+  next-first : nextIndex e p ≡ 0
+  unfolding nextIndex
+  next-first = ap (nextIndex e) is
+
+  pub before-none : (k : Cursor) (out : Bytes) → edgeCount e ≡ 0 → k ≡ record { state = after; offsets = replicate 256 0 }
+      → record { answer = wroteKey 0; buffer = out; cursor = k } ≡ advance e p out
+  before-none k out z q = step-out e p k out right (omega (arith, no-member e v z)) q
+    where
+      no-member : (e : Entry) → Valid e → edgeCount e ≡ 0 → count e ≡ 0
+      no-member e v z = unfold count keysOf edgeCount edgesOf in
+          length-members (e .width) (e .set) ∙ count-none (e .width) (e .width) (e .set) (inhabited-none (e .width) (e .set) (v .positive) z)
+
+  module _ (pos : 0 < edgeCount e) where
+    pub before-short : (out : Bytes) (m : ℕ) → m ≡ e .width → length out < keyBytes m → record { answer = refused shortBuffer; buffer = out; cursor = p } ≡ advance e p out
+    before-short out m em g = step-short e p out 0 right next-first (first-some e v pos) (rw em at g)
+
+    pub before-first : (k : Cursor) (os os' : List ℕ) (out out' : Bytes) (m n : ℕ) → os ≡ replicate 256 0 → os' ≡ front (pathOf e (getD (keysOf e) 0 [])) os
+        → k ≡ record { state = at; offsets = os' } → m ≡ e .width → keyBytes m ≤ length out → n ≡ keyBytes m → out' ≡ front (packBits (pathKey os' m)) out
+        → record { answer = wroteKey n; buffer = out'; cursor = k } ≡ advance e p out
+    unfolding padded
+    before-first k os os' out out' m n z w = step-on e v p k [] os os' out out' 0 m n right next-first (first-some e v pos) z (omega arith) w
+
+-- ---- After stays after
+pub after-stays : (e : Entry) (p : Cursor) (os : List ℕ) (out : Bytes) → p ≡ record { state = after; offsets = os } → length os ≡ 256 → allZero os ≡ true
+    → record { answer = wroteKey 0; buffer = out; cursor = p } ≡ advance e p out
+unfolding isCursorOf nextIndex padded
+after-stays e p os out is n z =
+    step-out e p p out (ap (isCursorOf e) is ∙ z) (omega (arith, ap (nextIndex e) is)) (is ∙ ap (λ x. record { state = after; offsets = x }) (right-bare e os n z))

@@ -1,0 +1,38 @@
+-- A cursor and a step's answer in the specification's words.
+use mathlib.Core.List.{List, map}
+use Prim.Native.Nat.{ℕ}
+use Rattle.loes.specs.Bytes.{Bytes}
+use Rattle.loes.specs.Model.{Answer, refused, wroteKey}
+use Rattle.loes.specs.Cursor as spec
+use Rattle.bits.specs.declared.EdgeOffset.{EdgeOffset}
+use Rattle.cursor.specs.declared.State.{State}
+use Rattle.cursor.specs.declared.State.the-variants as state
+use Rattle.cursor.specs.declared.Cursor.{Cursor}
+use Rattle.cursor.specs.declared.Step.{Step}
+use Rattle.cursor.specs.declared.Step.the-variants as step
+use Rattle.cursor.specs.declared.Stepped.{Stepped}
+
+abbrev pub stateOf : State → spec.State
+stateOf state.Before = spec.before
+stateOf state.At = spec.at
+stateOf state.After = spec.after
+
+unfoldable pub numbers : List EdgeOffset → List ℕ
+numbers os = map (λ (o : EdgeOffset). o .0) os
+
+abbrev pub at : spec.State → List ℕ → spec.Cursor
+at s os = record { state = s; offsets = os }
+
+abbrev pub cursorOf : Cursor → spec.Cursor
+cursorOf c = at (stateOf (c .state)) (numbers (c .offsets))
+
+abbrev pub stepAnswer : Step → Answer
+stepAnswer (step.Refused k) = refused k
+stepAnswer (step.Wrote n) = wroteKey n
+
+-- the answer, the output buffer and the cursor after a step
+abbrev pub advancedOf : Step → Bytes → Cursor → spec.Advanced
+advancedOf r out c = record { answer = stepAnswer r; buffer = out; cursor = cursorOf c }
+
+abbrev pub steppedOf : Stepped → Bytes → spec.Advanced
+steppedOf r out = advancedOf (r .answer) out (r .cursor)

@@ -1,0 +1,366 @@
+// A cursor over an encoding's members, and the step that moves it on.
+ghost use Prim.Native.Nat.{ℕ, _+_, _-_, _*_, _/_, _<_, _≤_};
+ghost use mathlib.Core.Path.{_≡_};
+ghost use mathlib.Core.Bool.{true, false};
+ghost use mathlib.Core.List.{[]};
+ghost use lib.ListN.{length, getD, drop, replicate};
+ghost use Rattle.loes.specs.Bytes.{front};
+ghost use Rattle.loes.specs.Entry.{keysOf, edgesOf};
+ghost use Rattle.loes.specs.Read.{entryIn};
+ghost use Rattle.loes.specs.Cursor as spec;
+ghost use Rattle.bits.specs.Tables.{Tallies};
+ghost use Rattle.encoding.specs.Opened.{Opens};
+ghost use Rattle.cursor.specs.Moves.{leadsOn, turns, firstEdge, behind, TurnsAt, Moved, Movable, hasPath};
+ghost use Rattle.cursor.specs.Steps.{numbers, at, cursorOf, advancedOf, steppedOf};
+use bits::EdgeOffset;
+use bits::RecordIndex;
+use encoding::Checked;
+use encoding::Encoding;
+use loes::refusal::BAD_CURSOR;
+use loes::refusal::SHORT_BUFFER;
+
+pub enum State {
+    Before,
+    At,
+    After,
+}
+
+// Before, after or at a member, with one edge offset for each level; unused offsets are 0 (document 01: a walk's place).
+pub struct Cursor {
+    pub state: State,
+    pub offsets: [EdgeOffset; Encoding::MAX_WIDTH],
+}
+
+impl Cursor {
+    // Before the first member.
+    pub fn before() -> Cursor
+        ensures { λ r. ⌜ cursorOf r ≡ at spec.before (replicate 256 0) ⌝ }
+    {
+        Cursor {
+            state: State::Before,
+            offsets: [EdgeOffset(0); Encoding::MAX_WIDTH],
+        }
+    }
+
+    // After the last member.
+    pub fn after() -> Cursor
+        ensures { λ r. ⌜ cursorOf r ≡ at spec.after (replicate 256 0) ⌝ }
+    {
+        Cursor {
+            state: State::After,
+            offsets: [EdgeOffset(0); Encoding::MAX_WIDTH],
+        }
+    }
+
+    // At the member of a path.
+    pub fn at(path: [usize; 256]) -> Cursor
+        ensures { λ r. ⌜ cursorOf r ≡ at spec.at path ⌝ }
+    {
+        let mut offsets = [EdgeOffset(0); Encoding::MAX_WIDTH];
+        let mut d: usize = 0;
+        while d < Encoding::MAX_WIDTH {
+            offsets[d] = EdgeOffset(path[d]);
+            d += 1;
+        }
+        Cursor {
+            state: State::At,
+            offsets,
+        }
+    }
+}
+
+// A cursor's offsets as numbers.
+fn path_of(c: Cursor) -> [usize; Encoding::MAX_WIDTH]
+    ensures { λ r. ⌜ r ≡ numbers (c .offsets) ⌝ }
+{
+    let offsets = c.offsets;
+    let mut path = [0usize; Encoding::MAX_WIDTH];
+    let mut d: usize = 0;
+    while d < Encoding::MAX_WIDTH {
+        let o = offsets[d];
+        path[d] = o.0;
+        d += 1;
+    }
+    path
+}
+
+// What a step returns: a refusal, or the bytes of the key that it wrote; 0 if it went to after.
+pub enum Step {
+    Refused(u8),
+    Wrote(usize),
+}
+
+pub struct Stepped {
+    pub cursor: Cursor,
+    pub answer: Step,
+}
+
+// ---- Refusal 15: is the cursor one of this encoding?
+// Whether an offset is one of a record's two, and set.
+fn leads_on(l: &[u8], e: Encoding, r: RecordIndex, o: EdgeOffset) -> bool
+    requires { ⌜ Opens (now l) e ⌝ }
+    ensures { λ x. ⌜ x ≡ leadsOn (edgesOf (entryIn (now (l .entry)))) (r .0) (o .0) ⌝ }
+{
+    if o.0 / 2 != r.0 {
+        return false;
+    }
+    if e.bits <= o.0 {
+        return false;
+    }
+    encoding::edge_at(l, e, o)
+}
+
+// Whether offsets begin with a member's path: level by level, each leads on.
+fn is_path(l: &[u8], t: &[u16], e: Encoding, path: &[usize]) -> bool
+    requires { ⌜ Opens (now l) e × Tallies (now t) × (e .width ≤ length (now path)) ⌝ }
+    ensures { λ r. ⌜ r ≡ hasPath (entryIn (now (l .entry))) (now (path .entry)) ⌝ }
+{
+    let m = e.width;
+    let mut r: usize = 0;
+    let mut d: usize = 0;
+    while d < m {
+        let o = path[d];
+        let on = leads_on(l, e, RecordIndex(r), EdgeOffset(o));
+        if !on {
+            return false;
+        }
+        r = encoding::ones_before(l, t, e, EdgeOffset(o)) + 1;
+        d += 1;
+    }
+    true
+}
+
+// Whether the offsets from a level on are all 0.
+fn zeros_from(path: &[usize], from: usize) -> bool
+    requires { ⌜ from ≤ length (now path) ⌝ }
+    ensures { λ r. ⌜ r ≡ spec.allZero (drop from (now (path .entry))) ⌝ }
+{
+    let mut i = from;
+    while i < path.len() {
+        if path[i] != 0 {
+            return false;
+        }
+        i += 1;
+    }
+    true
+}
+
+// Whether offsets are a member's path with zeros behind it.
+fn is_cursor(l: &[u8], t: &[u16], e: Encoding, path: &[usize]) -> bool
+    requires { ⌜ Opens (now l) e × Tallies (now t) × (e .width ≤ length (now path)) ⌝ }
+    ensures { λ r. ⌜ r ≡ spec.isCursorOf (entryIn (now (l .entry))) (at spec.at (now (path .entry))) ⌝ }
+{
+    if is_path(l, t, e, path) {
+        return zeros_from(path, e.width);
+    }
+    false
+}
+
+// ---- The next path
+// Whether the next set bit is in the same record.
+fn turns_on(l: &[u8], e: Encoding, o: EdgeOffset) -> bool
+    requires { ⌜ Opens (now l) e × (o .0 < e .bits) ⌝ }
+    ensures { λ x. ⌜ x ≡ turns (edgesOf (entryIn (now (l .entry)))) (o .0) ⌝ }
+{
+    if o.0 % 2 == 1 {
+        return false;
+    }
+    if e.bits <= o.0 + 1 {
+        return false;
+    }
+    encoding::edge_at(l, e, EdgeOffset(o.0 + 1))
+}
+
+// The lowest level on which a path turns, and 1; 0 if there is none.
+fn turn_level(l: &[u8], e: Encoding, path: &[usize]) -> usize
+    requires { ⌜ Opens (now l) e × (e .width ≤ length (now path)) × ((j : ℕ) → j < e .width → getD (now path) j 0 < e .bits) ⌝ }
+    ensures { λ r. ⌜ TurnsAt (edgesOf (entryIn (now (l .entry)))) (e .width) (now (path .entry)) r ⌝ }
+{
+    let mut d = e.width;
+    while 0 < d {
+        let o = path[d - 1];
+        let turn = turns_on(l, e, EdgeOffset(o));
+        if turn {
+            return d;
+        }
+        d -= 1;
+    }
+    0
+}
+
+// The first set bit of a record.
+fn first_edge(l: &[u8], e: Encoding, r: RecordIndex) -> EdgeOffset
+    requires { ⌜ Opens (now l) e × (2 * r .0 < e .bits) ⌝ }
+    ensures { λ x. ⌜ x .0 ≡ firstEdge (edgesOf (entryIn (now (l .entry)))) (r .0) ⌝ }
+{
+    let o = 2 * r.0;
+    if encoding::edge_at(l, e, EdgeOffset(o)) {
+        return EdgeOffset(o);
+    }
+    EdgeOffset(o + 1)
+}
+
+// The offset behind q on level d of a path that turns on level t: there the next one, below the first of the next record.
+fn next_offset(l: &[u8], e: Encoding, t: usize, d: usize, q: EdgeOffset) -> EdgeOffset
+    requires { ⌜ Opens (now l) e × (d ≡ t → q .0 < e .bits) × ((d ≡ t → ⊥) → 2 * (q .0 / 2 + 1) < e .bits) ⌝ }
+    ensures { λ x. ⌜ x .0 ≡ behind (edgesOf (entryIn (now (l .entry)))) t d (q .0) ⌝ }
+{
+    if d == t {
+        return EdgeOffset(q.0 + 1);
+    }
+    first_edge(l, e, RecordIndex(q.0 / 2 + 1))
+}
+
+// Moves a path on from its turn on level t.
+fn move_on(l: &[u8], e: Encoding, t: usize, path: &mut [usize])
+    requires { ⌜ Opens (now l) e × Movable (e .bits) (e .width) t (now path) ⌝ }
+    ensures { λ _. ⌜ Moved (edgesOf (entryIn (now (l .entry)))) (e .width) t (now (path .entry)) (now (path .exit)) ⌝ }
+{
+    let m = e.width;
+    let mut d = t;
+    while d < m {
+        let q = path[d];
+        let x = next_offset(l, e, t, d, EdgeOffset(q));
+        let o = x.0;
+        path[d] = o;
+        d += 1;
+    }
+}
+
+// The path of the first member.
+fn first_path(l: &[u8], t: &[u16], e: Encoding, path: &mut [usize])
+    requires { ⌜ Opens (now l) e × Tallies (now t) × (0 < e .bits) × (e .width ≤ length (now path)) ⌝ }
+    ensures { λ _. ⌜ now (path .exit) ≡ front (spec.pathOf (entryIn (now (l .entry))) (getD (keysOf (entryIn (now (l .entry)))) 0 [])) (now (path .entry)) ⌝ }
+{
+    let m = e.width;
+    let mut r: usize = 0;
+    let mut d: usize = 0;
+    while d < m {
+        let x = first_edge(l, e, RecordIndex(r));
+        let o = x.0;
+        path[d] = o;
+        r = encoding::ones_before(l, t, e, x) + 1;
+        d += 1;
+    }
+}
+
+// ---- The step, behind the check
+// From a member's path: the turn is found first, and nothing moves before the buffer is known to fit.
+fn step_at(
+    l: &[u8],
+    t: &[u16],
+    e: Encoding,
+    c: Cursor,
+    path: [usize; 256],
+    out: &mut [u8],
+) -> Stepped
+    requires { ⌜ Opens (now l) e × Tallies (now t) × (cursorOf c ≡ at spec.at path) × (spec.isCursorOf (entryIn (now l)) (cursorOf c) ≡ true) ⌝ }
+    ensures { λ r. ⌜ steppedOf r (now (out .exit)) ≡ spec.advance (entryIn (now (l .entry))) (cursorOf c) (now (out .entry)) ⌝ }
+{
+    let level = turn_level(l, e, &path);
+    if level == 0 {
+        return Stepped {
+            cursor: Cursor::after(),
+            answer: Step::Wrote(0),
+        };
+    }
+    let m = e.width;
+    if out.len() < (m + 7) / 8 {
+        return Stepped {
+            cursor: c,
+            answer: Step::Refused(SHORT_BUFFER),
+        };
+    }
+    let mut next = path;
+    move_on(l, e, level - 1, &mut next);
+    let n = query::write_key(&next, m, out);
+    Stepped {
+        cursor: Cursor::at(next),
+        answer: Step::Wrote(n),
+    }
+}
+
+// From before the first member.
+fn step_before(l: &[u8], t: &[u16], e: Encoding, c: Cursor, out: &mut [u8]) -> Stepped
+    requires { ⌜ Opens (now l) e × Tallies (now t) × (cursorOf c ≡ at spec.before (replicate 256 0)) ⌝ }
+    ensures { λ r. ⌜ steppedOf r (now (out .exit)) ≡ spec.advance (entryIn (now (l .entry))) (cursorOf c) (now (out .entry)) ⌝ }
+{
+    if e.bits == 0 {
+        return Stepped {
+            cursor: Cursor::after(),
+            answer: Step::Wrote(0),
+        };
+    }
+    let m = e.width;
+    if out.len() < (m + 7) / 8 {
+        return Stepped {
+            cursor: c,
+            answer: Step::Refused(SHORT_BUFFER),
+        };
+    }
+    let mut path = query::no_offsets();
+    first_path(l, t, e, &mut path);
+    let n = query::write_key(&path, m, out);
+    Stepped {
+        cursor: Cursor::at(path),
+        answer: Step::Wrote(n),
+    }
+}
+
+// From any cursor: 15, then 14 unless it goes to after.
+pub fn advanced(l: &[u8], t: &[u16], e: Encoding, c: Cursor, out: &mut [u8]) -> Stepped
+    requires { ⌜ Opens (now l) e × Tallies (now t) ⌝ }
+    ensures { λ r. ⌜ steppedOf r (now (out .exit)) ≡ spec.advance (entryIn (now (l .entry))) (cursorOf c) (now (out .entry)) ⌝ }
+{
+    let path = path_of(c);
+    let state = c.state;
+    match state {
+        State::At => {
+            if is_cursor(l, t, e, &path) {
+                return step_at(l, t, e, c, path, out);
+            }
+        }
+        State::Before => {
+            if zeros_from(&path, 0) {
+                return step_before(l, t, e, c, out);
+            }
+        }
+        State::After => {
+            if zeros_from(&path, 0) {
+                return Stepped {
+                    cursor: c,
+                    answer: Step::Wrote(0),
+                };
+            }
+        }
+    }
+    Stepped {
+        cursor: c,
+        answer: Step::Refused(BAD_CURSOR),
+    }
+}
+
+// ---- On bytes: the check first
+// The step by value.
+pub fn advanced_call(l: &[u8], c: Cursor, out: &mut [u8]) -> Stepped
+    ensures { λ r. ⌜ steppedOf r (now (out .exit)) ≡ spec.advanceCall (now (l .entry)) (cursorOf c) (now (out .entry)) ⌝ }
+{
+    let t = bits::tallies();
+    let checked = encoding::check(l, &t);
+    match checked {
+        Checked::Refused(k) => Stepped {
+            cursor: c,
+            answer: Step::Refused(k),
+        },
+        Checked::Opened(e) => advanced(l, &t, e, c, out),
+    }
+}
+
+// Moves a lent cursor on to the next member and writes its key to the front of a buffer (document 01: the step).
+pub fn advance(l: &[u8], cursor: &mut Cursor, out: &mut [u8]) -> Step
+    ensures { λ r. ⌜ advancedOf r (now (out .exit)) (now (cursor .exit)) ≡ spec.advanceCall (now (l .entry)) (cursorOf (now (cursor .entry))) (now (out .entry)) ⌝ }
+{
+    let s = advanced_call(l, *cursor, out);
+    *cursor = s.cursor;
+    s.answer
+}

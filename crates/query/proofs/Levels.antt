@@ -1,0 +1,70 @@
+-- The descent over an entry's edges.
+use mathlib.Core.Path.{_≡_, sym, ap, ap₂, _∙_}
+use Prim.Native.Nat.{ℕ, suc, _+_, _-_, _/_, _≤_, _<_}
+use mathlib.Core.Bool.{Bool, true, false, _&&_}
+use mathlib.Core.List.{_∷_, [], _++_}
+use native.Mathlib.Omega.{arith}
+use lib.ListN.{length, getD}
+use Rattle.loes.specs.Bytes.{Bytes, tabulate, bitAt, bitsIn}
+use Rattle.loes.specs.Keys.{smaller}
+use Rattle.loes.specs.Edges.{edges, onesBefore}
+use Rattle.loes.specs.Entry.{Entry, keysOf, edgesOf, edgeCount, Valid}
+use Rattle.loes.proofs.Tree.{inhabited, hasPrefix, prefix-whole}
+use Rattle.loes.proofs.Navigation.{recordIndex}
+use Rattle.bits.proofs.Counts.{length-bitsIn}
+use Rattle.query.specs.Descent.{edgeFrom, Way, Located}
+use Rattle.query.proofs.BitLists.{up, bits-suc}
+use Rattle.query.proofs.Descent.{edge-le, edge-lt, record-step, found-step, record-end, record-first, inhabited-some, inhabited-none, none-smaller, none-in}
+
+module _ (e : Entry) (h : Valid e) (key : Bytes) where
+  pub some-key : 0 < edgeCount e → inhabited (e .width) (e .set) ≡ true
+  unfolding edgeCount edgesOf
+  some-key p = inhabited-some (e .width) (e .set) p
+
+  module _ {d r : ℕ} {f : Bool} (w : Way e key d r f) (c : d < e .width) where
+    pl : length (bitsIn key d) < e .width
+    pl = omega (arith, length-bitsIn key d)
+
+    pub way-le : (x : Bool) → edgeFrom r f x ≤ edgeCount e
+    unfolding edgeCount edgesOf
+    way-le x = rw (w .at, w .on) (edge-le (bitsIn key d) x (e .width) (e .set) pl)
+
+    pub way-lt : (x : Bool) → f ≡ true → edgeFrom r f x < edgeCount e
+    unfolding edgeCount edgesOf
+    way-lt x q = rw (w .at, w .on) (edge-lt (bitsIn key d) x (e .width) (e .set) pl (sym (w .on) ∙ q))
+
+    pub way-next : 0 < edgeCount e → (x : Bool) → x ≡ bitAt key d → (r' : ℕ) (f' : Bool)
+        → r' ≡ onesBefore (edgesOf e) (edgeFrom r f x) + 1 → f' ≡ (f && getD (edgesOf e) (edgeFrom r f x) false) → Way e key (d + 1) r' f'
+    unfolding edgesOf onesBefore
+    way-next q x xs r' f' er ef =
+        let n : bitsIn key (d + 1) ≡ bitsIn key d ++ x ∷ [] = ap (bitsIn key) (sym (up d)) ∙ rw xs (bits-suc key d) in
+        record {
+          at = er
+              ∙ sym (up (onesBefore (edges (e .width) (e .set)) (edgeFrom r f x)))
+              ∙ ap₂ (λ y z. suc (onesBefore (edges (e .width) (e .set)) (edgeFrom y z x))) (w .at) (w .on)
+              ∙ record-step (bitsIn key d) x (e .width) (e .set) pl (some-key q)
+              ∙ ap (λ y. recordIndex y (e .width) (e .set)) (sym n);
+          on = ef
+              ∙ ap₂ (λ y z. z && getD (edges (e .width) (e .set)) (edgeFrom y z x) false) (w .at) (w .on)
+              ∙ found-step (bitsIn key d) x (e .width) (e .set) pl
+              ∙ ap (λ y. hasPrefix y (e .width) (e .set)) (sym n);
+        }
+
+  pub way-first : 0 < edgeCount e → Way e key 0 0 true
+  way-first q = record { at = unfold bitsIn tabulate in sym (record-first (e .width) (e .set)); on = unfold bitsIn tabulate hasPrefix in sym (some-key q) }
+
+  -- at the end
+  pub way-located : (w b r : ℕ) (f : Bool) → w ≡ e .width → b ≡ edgeCount e → Way e key w r f → (b / 2 ≤ r) × Located e (bitsIn key w) (r - b / 2) f
+  unfolding edgeCount edgesOf keysOf
+  way-located w b r f ew eb v =
+      let n = length-bitsIn key w ∙ ew in
+      let q : r ≡ b / 2 + smaller (bitsIn key w) (keysOf e) = rw eb (v .at ∙ record-end (bitsIn key w) (e .width) (e .set) n) in
+      (omega (arith, q), record { below = omega (arith, q); inside = v .on ∙ prefix-whole (bitsIn key w) (e .width) (e .set) n })
+
+  -- with no edges there is no member
+  pub none-located : (w : ℕ) → w ≡ e .width → edgeCount e ≡ 0 → Located e (bitsIn key w) 0 false
+  unfolding edgeCount edgesOf keysOf
+  none-located w ew z =
+      let n = inhabited-none (e .width) (e .set) (h .positive) z in
+      let k = length-bitsIn key w ∙ ew in
+      record { below = sym (none-smaller (bitsIn key w) (e .width) (e .set) k n); inside = sym (none-in (bitsIn key w) (e .width) (e .set) k n) }

@@ -1,0 +1,37 @@
+-- What each answer says in the specification's words, with the lent buffers.
+use mathlib.Core.List.{[], _∷_}
+use Rattle.loes.specs.Bytes.{Bytes}
+use Rattle.loes.specs.Model.{Answer, Outcome, refused, wroteKey, isPresent, isAbsent, isNone, indexIs}
+use Rattle.query.specs.declared.Membership.{Membership}
+use Rattle.query.specs.declared.Membership.the-variants as membership
+use Rattle.query.specs.declared.Lookup.{Lookup}
+use Rattle.query.specs.declared.Lookup.the-variants as lookup
+use Rattle.query.specs.declared.Bound.{Bound}
+use Rattle.query.specs.declared.Bound.the-variants as bound
+use Rattle.query.specs.declared.Written.{Written}
+use Rattle.query.specs.declared.Written.the-variants as written
+
+abbrev pub says : Answer → Outcome
+says a = record { answer = a; buffers = [] }
+
+abbrev pub membershipOutcome : Membership → Outcome
+membershipOutcome (membership.Refused k) = says (refused k)
+membershipOutcome membership.Present = says isPresent
+membershipOutcome membership.Absent = says isAbsent
+
+abbrev pub lookupOutcome : Lookup → Outcome
+lookupOutcome (lookup.Refused k) = says (refused k)
+lookupOutcome (lookup.Index i) = says (indexIs (i .0))
+lookupOutcome lookup.Absent = says isAbsent
+
+abbrev pub boundOutcome : Bound → Outcome
+boundOutcome (bound.Refused k) = says (refused k)
+boundOutcome (bound.Index i) = says (indexIs (i .0))
+boundOutcome bound.End = says isNone
+
+abbrev pub writtenAnswer : Written → Answer
+writtenAnswer (written.Refused k) = refused k
+writtenAnswer (written.Bytes n) = wroteKey n
+
+abbrev pub writtenOutcome : Written → Bytes → Outcome
+writtenOutcome r out = record { answer = writtenAnswer r; buffers = out ∷ [] }

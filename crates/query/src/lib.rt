@@ -1,0 +1,453 @@
+// Questions to an encoding: one descent behind contains, index_of and lower_bound, one select behind key_at.
+ghost use Prim.Native.Nat.{_+_, _-_, _*_, _/_, _<_, _≤_};
+ghost use mathlib.Core.Path.{_≡_};
+ghost use mathlib.Core.Bool.{true, false, _&&_, not, _||_};
+ghost use mathlib.Core.List.{[]};
+ghost use lib.ListN.{length, getD, replicate};
+ghost use lib.Dec.{eqb};
+ghost use Rattle.loes.specs.Limits.{maxWidth, maxEdges, blockBits, subBlockBits};
+ghost use Rattle.loes.specs.Bytes.{bit, bitsIn, byteOf, packBits, front};
+ghost use Rattle.loes.specs.Edges.{ones, onesBefore};
+ghost use Rattle.loes.specs.Entry.{keyBytes, keysOf, count, edgesOf};
+ghost use Rattle.loes.specs.Encode.{blockOnes, subBlockOnes};
+ghost use Rattle.loes.specs.Read.{entryIn};
+ghost use Rattle.loes.specs.Model.{unusedSet, contains, indexOf, lowerBound, keyAt};
+ghost use Rattle.loes.specs.Calls.{containsCall, indexOfCall, keyAtCall, lowerBoundCall};
+ghost use Rattle.loes.specs.Cursor.{pathOf};
+ghost use Rattle.bits.specs.Tables.{select, bits8, Tallies, Places};
+ghost use Rattle.encoding.specs.Opened.{Opens};
+ghost use Rattle.query.specs.Descent.{edgeFrom, Way, Located};
+ghost use Rattle.query.specs.Paths.{pathKey};
+ghost use Rattle.query.specs.Select.{numbered};
+ghost use Rattle.query.specs.Answers.{membershipOutcome, lookupOutcome, boundOutcome, writtenOutcome};
+use bits::EdgeOffset;
+use bits::MemberIndex;
+use bits::RecordIndex;
+use encoding::Checked;
+use encoding::Encoding;
+use loes::refusal::BAD_KEY;
+use loes::refusal::OUT_OF_RANGE;
+use loes::refusal::SHORT_BUFFER;
+
+// ---- Answers
+pub enum Membership {
+    Refused(u8),
+    Present,
+    Absent,
+}
+
+pub enum Lookup {
+    Refused(u8),
+    Index(MemberIndex),
+    Absent,
+}
+
+pub enum Bound {
+    Refused(u8),
+    Index(MemberIndex),
+    End,
+}
+
+pub enum Written {
+    Refused(u8),
+    Bytes(usize),
+}
+
+// ---- The descent
+// A descent on its way: the record of the key's prefix, or the one it would have, and whether that prefix is found.
+pub struct Spot {
+    pub record: RecordIndex,
+    pub found: bool,
+}
+
+// The edge that a descent takes.
+fn edge_from(at: Spot, bit: bool) -> EdgeOffset
+    requires { ⌜ at .record .0 ≤ 262140 ⌝ }
+    ensures { λ r. ⌜ r .0 ≡ edgeFrom (at .record .0) (at .found) bit ⌝ }
+{
+    let r = at.record.0;
+    if at.found && bit {
+        return EdgeOffset(2 * r + 1);
+    }
+    EdgeOffset(2 * r)
+}
+
+// The edge is set, if the descent is still on the key's way.
+fn edge_set(l: &[u8], e: Encoding, found: bool, o: EdgeOffset) -> bool
+    requires { ⌜ Opens (now l) e × (found ≡ true → o .0 < e .bits) ⌝ }
+    ensures { λ r. ⌜ r ≡ (found && getD (edgesOf (entryIn (now (l .entry)))) (o .0) false) ⌝ }
+{
+    if found {
+        return encoding::edge_at(l, e, o);
+    }
+    false
+}
+
+// One level down: one rank.
+fn step_down(l: &[u8], t: &[u16], e: Encoding, at: Spot, bit: bool) -> Spot
+    requires { ⌜ Opens (now l) e × Tallies (now t) × (edgeFrom (at .record .0) (at .found) bit ≤ e .bits) × (at .found ≡ true → edgeFrom (at .record .0) (at .found) bit < e .bits) ⌝ }
+    ensures { λ r. ⌜ (r .record .0 ≡ onesBefore (edgesOf (entryIn (now (l .entry)))) (edgeFrom (at .record .0) (at .found) bit) + 1) × (r .found ≡ (at .found && getD (edgesOf (entryIn (now (l .entry)))) (edgeFrom (at .record .0) (at .found) bit) false)) ⌝ }
+{
+    let on = at.found;
+    let o = edge_from(at, bit);
+    let n = encoding::ones_before(l, t, e, o);
+    let f = edge_set(l, e, on, o);
+    Spot {
+        record: RecordIndex(n + 1),
+        found: f,
+    }
+}
+
+// All levels down: the record number that the key has or would have behind the last level.
+fn descend(l: &[u8], t: &[u16], e: Encoding, key: &[u8]) -> Spot
+    requires { ⌜ Opens (now l) e × Tallies (now t) × (0 < e .bits) × (e .width ≤ 8 * length (now key)) ⌝ }
+    ensures { λ r. ⌜ Way (entryIn (now (l .entry))) (now (key .entry)) (e .width) (r .record .0) (r .found) ⌝ }
+{
+    let mut at = Spot {
+        record: RecordIndex(0),
+        found: true,
+    };
+    let mut d: usize = 0;
+    while d < e.width {
+        let bit = bits::bit_at(key, d);
+        at = step_down(l, t, e, at, bit);
+        d += 1;
+    }
+    at
+}
+
+// A key among the members: how many are smaller, and whether it is one.
+pub struct Position {
+    pub below: MemberIndex,
+    pub found: bool,
+}
+
+pub fn locate(l: &[u8], t: &[u16], e: Encoding, key: &[u8]) -> Position
+    requires { ⌜ Opens (now l) e × Tallies (now t) × (e .width ≤ 8 * length (now key)) ⌝ }
+    ensures { λ r. ⌜ Located (entryIn (now (l .entry))) (bitsIn (now (key .entry)) (e .width)) (r .below .0) (r .found) ⌝ }
+{
+    if e.bits == 0 {
+        return Position {
+            below: MemberIndex(0),
+            found: false,
+        };
+    }
+    let at = descend(l, t, e, key);
+    let n = at.record.0 - e.bits / 2;
+    let f = at.found;
+    Position {
+        below: MemberIndex(n),
+        found: f,
+    }
+}
+
+// ---- Keys as they are given
+// Whether a bit behind the m bits of a key is set.
+fn unused_set(key: &[u8], m: usize) -> bool
+    requires { ⌜ (length (now key) ≡ keyBytes m) × (m ≤ 256) ⌝ }
+    ensures { λ r. ⌜ r ≡ unusedSet m (now (key .entry)) ⌝ }
+{
+    let mut o = m;
+    while o < 8 * key.len() {
+        if bits::bit_at(key, o) {
+            return true;
+        }
+        o += 1;
+    }
+    false
+}
+
+// Refusal 8: not t bytes, or an unused bit set.
+fn bad_key(e: Encoding, key: &[u8]) -> bool
+    requires { ⌜ e .width ≤ 256 ⌝ }
+    ensures { λ r. ⌜ r ≡ (not (eqb (length (now (key .entry))) (keyBytes (e .width))) || unusedSet (e .width) (now (key .entry))) ⌝ }
+{
+    if key.len() != (e.width + 7) / 8 {
+        return true;
+    }
+    unused_set(key, e.width)
+}
+
+// ---- Select
+// Sub-blocks of a block, and edge bytes of a sub-block.
+const SUB_BLOCKS: usize = Encoding::BLOCK_BITS / Encoding::SUB_BLOCK_BITS;
+
+const SUB_BLOCK_BYTES: usize = Encoding::SUB_BLOCK_BITS / 8;
+// What a byte's tally is above its set bits if one of its records is empty.
+const EMPTY: usize = 1024;
+
+// The set bits of a byte.
+fn ones_in(t: &[u16], x: u8) -> usize
+    requires { ⌜ Tallies (now t) ⌝ }
+    ensures { λ r. ⌜ r ≡ ones (bits8 x) ⌝ }
+{
+    (t[x as usize] as usize) % EMPTY
+}
+
+// The offset of the set bit that has `left` set bits before it from byte `from` on.
+fn select_from(edges: &[u8], t: &[u16], places: &[u8], from: usize, left: usize) -> EdgeOffset
+    requires { ⌜ Tallies (now t) × Places (now places) × (length (now edges) ≤ 68695) × (numbered (now edges) from left < ones (bitsIn (now edges) (8 * length (now edges)))) ⌝ }
+    ensures { λ r. ⌜ r .0 ≡ select (bitsIn (now (edges .entry)) (8 * length (now (edges .entry)))) (numbered (now (edges .entry)) from left) ⌝ }
+{
+    let mut i = from;
+    let mut k = left;
+    let mut c = ones_in(t, edges[i]);
+    while c <= k {
+        k -= c;
+        i += 1;
+        c = ones_in(t, edges[i]);
+    }
+    let x = edges[i] as usize;
+    EdgeOffset(8 * i + (places[8 * x + k] as usize))
+}
+
+// A block with at most k set bits before it: the last one.
+fn block_of(l: &[u8], e: Encoding, k: usize) -> usize
+    requires { ⌜ Opens (now l) e × (0 < e .bits) ⌝ }
+    ensures { λ r. ⌜ (blockBits * r < e .bits) × (blockOnes (edgesOf (entryIn (now (l .entry)))) r ≤ k) ⌝ }
+{
+    let b = e.bits;
+    let mut j: usize = 0;
+    while Encoding::BLOCK_BITS * (j + 1) < b {
+        let n = bits::number8(l, e.blocks + 8 * (j + 1));
+        if k < n {
+            return j;
+        }
+        j += 1;
+    }
+    j
+}
+
+// Whether sub-block j is there, with at most k set bits of its block before it.
+fn begins_by(l: &[u8], e: Encoding, j: usize, k: usize) -> bool
+    requires { ⌜ Opens (now l) e × (j ≤ maxEdges) ⌝ }
+    ensures { λ r. ⌜ (r ≡ true → (subBlockBits * j < e .bits) × (subBlockOnes (edgesOf (entryIn (now (l .entry)))) j ≤ k)) ⌝ }
+{
+    if Encoding::SUB_BLOCK_BITS * j < e.bits {
+        let n = bits::number2(l, e.sub_blocks + 2 * j);
+        return n <= k;
+    }
+    false
+}
+
+// A sub-block of a block with at most k set bits of the block before it: the last one, halving.
+fn sub_block_of(l: &[u8], e: Encoding, block: usize, k: usize) -> usize
+    requires { ⌜ Opens (now l) e × (blockBits * block < e .bits) ⌝ }
+    ensures { λ r. ⌜ (r / 128 ≡ block) × (subBlockBits * r < e .bits) × (subBlockOnes (edgesOf (entryIn (now (l .entry)))) r ≤ k) ⌝ }
+{
+    let mut low = SUB_BLOCKS * block;
+    let mut high = low + SUB_BLOCKS;
+    while low + 1 < high {
+        let mid = (low + high) / 2;
+        if begins_by(l, e, mid, k) {
+            low = mid;
+        } else {
+            high = mid;
+        }
+    }
+    low
+}
+
+// The edge that leads to a record: the set bit of the record's number less 1, by block, sub-block, byte and table.
+fn edge_to(l: &[u8], t: &[u16], places: &[u8], e: Encoding, r: RecordIndex) -> EdgeOffset
+    requires { ⌜ Opens (now l) e × Tallies (now t) × Places (now places) × (0 < r .0) × (r .0 - 1 < ones (edgesOf (entryIn (now l)))) ⌝ }
+    ensures { λ x. ⌜ x .0 ≡ select (edgesOf (entryIn (now (l .entry)))) (r .0 - 1) ⌝ }
+{
+    let k = r.0 - 1;
+    let block = block_of(l, e, k);
+    let in_block = k - bits::number8(l, e.blocks + 8 * block);
+    let sub = sub_block_of(l, e, block, in_block);
+    let left = in_block - bits::number2(l, e.sub_blocks + 2 * sub);
+    let start = e.edges;
+    select_from(&l[start..], t, places, SUB_BLOCK_BYTES * sub, left)
+}
+
+// ---- Paths and their keys
+// The offsets of member i's edges, from the last level up.
+fn path_at(l: &[u8], t: &[u16], places: &[u8], e: Encoding, i: MemberIndex, offsets: &mut [usize])
+    requires { ⌜ Opens (now l) e × Tallies (now t) × Places (now places) × (i .0 < e .count) × (e .width ≤ length (now offsets)) ⌝ }
+    ensures { λ _. ⌜ now (offsets .exit) ≡ front (pathOf (entryIn (now (l .entry))) (getD (keysOf (entryIn (now (l .entry)))) (i .0) [])) (now (offsets .entry)) ⌝ }
+{
+    let n = i.0;
+    let mut r = e.bits / 2 + n;
+    let mut d = e.width;
+    while 0 < d {
+        d -= 1;
+        let o = edge_to(l, t, places, e, RecordIndex(r));
+        let q = o.0;
+        offsets[d] = q;
+        r = q / 2;
+    }
+}
+
+// Bit q of the key of a path; none behind its last.
+fn key_bit(offsets: &[usize], m: usize, q: usize) -> usize
+    requires { ⌜ m ≤ length (now offsets) ⌝ }
+    ensures { λ r. ⌜ r ≡ bit (getD (pathKey (now (offsets .entry)) m) q false) ⌝ }
+{
+    if q < m {
+        return offsets[q] % 2;
+    }
+    0
+}
+
+// Byte j of the key of a path.
+fn key_byte(offsets: &[usize], m: usize, j: usize) -> u8
+    requires { ⌜ (m ≤ length (now offsets)) × (j < 65536) ⌝ }
+    ensures { λ r. ⌜ r ≡ byteOf (pathKey (now (offsets .entry)) m) j ⌝ }
+{
+    let mut v: usize = 0;
+    let mut e: usize = 0;
+    while e < 8 {
+        let x = key_bit(offsets, m, 8 * j + e);
+        v = 2 * v + x;
+        e += 1;
+    }
+    v as u8
+}
+
+// Writes the key of a path to the front of a buffer.
+pub fn write_key(offsets: &[usize], m: usize, out: &mut [u8]) -> usize
+    requires { ⌜ (m ≤ maxWidth) × (m ≤ length (now offsets)) × (keyBytes m ≤ length (now out)) ⌝ }
+    ensures { λ r. ⌜ (r ≡ keyBytes m) × (now (out .exit) ≡ front (packBits (pathKey (now (offsets .entry)) m)) (now (out .entry))) ⌝ }
+{
+    let t = (m + 7) / 8;
+    let mut j: usize = 0;
+    while j < t {
+        out[j] = key_byte(offsets, m, j);
+        j += 1;
+    }
+    t
+}
+
+// No offset on any level.
+pub fn no_offsets() -> [usize; Encoding::MAX_WIDTH]
+    ensures { λ r. ⌜ r ≡ replicate 256 0 ⌝ }
+{
+    [0usize; Encoding::MAX_WIDTH]
+}
+
+// ---- Questions behind the check
+// Whether a key is a member.
+pub fn contains_in(l: &[u8], t: &[u16], e: Encoding, key: &[u8]) -> Membership
+    requires { ⌜ Opens (now l) e × Tallies (now t) ⌝ }
+    ensures { λ r. ⌜ membershipOutcome r ≡ contains (entryIn (now (l .entry))) (now (key .entry)) .outcome ⌝ }
+{
+    if bad_key(e, key) {
+        return Membership::Refused(BAD_KEY);
+    }
+    let p = locate(l, t, e, key);
+    if p.found {
+        return Membership::Present;
+    }
+    Membership::Absent
+}
+
+// A key's index among the members, or that it is none.
+pub fn index_of_in(l: &[u8], t: &[u16], e: Encoding, key: &[u8]) -> Lookup
+    requires { ⌜ Opens (now l) e × Tallies (now t) ⌝ }
+    ensures { λ r. ⌜ lookupOutcome r ≡ indexOf (entryIn (now (l .entry))) (now (key .entry)) .outcome ⌝ }
+{
+    if bad_key(e, key) {
+        return Lookup::Refused(BAD_KEY);
+    }
+    let p = locate(l, t, e, key);
+    let i = p.below;
+    if p.found {
+        return Lookup::Index(i);
+    }
+    Lookup::Absent
+}
+
+// The index of the smallest member not below a key, or that there is none.
+pub fn lower_bound_in(l: &[u8], t: &[u16], e: Encoding, key: &[u8]) -> Bound
+    requires { ⌜ Opens (now l) e × Tallies (now t) ⌝ }
+    ensures { λ r. ⌜ boundOutcome r ≡ lowerBound (entryIn (now (l .entry))) (now (key .entry)) .outcome ⌝ }
+{
+    if bad_key(e, key) {
+        return Bound::Refused(BAD_KEY);
+    }
+    let p = locate(l, t, e, key);
+    let i = p.below;
+    if i.0 == e.count {
+        return Bound::End;
+    }
+    Bound::Index(i)
+}
+
+// Writes the member at an index to the front of a buffer.
+pub fn key_at_in(
+    l: &[u8],
+    t: &[u16],
+    places: &[u8],
+    e: Encoding,
+    i: MemberIndex,
+    out: &mut [u8],
+) -> Written
+    requires { ⌜ Opens (now l) e × Tallies (now t) × Places (now places) ⌝ }
+    ensures { λ r. ⌜ writtenOutcome r (now (out .exit)) ≡ keyAt (entryIn (now (l .entry))) (i .0) (now (out .entry)) .outcome ⌝ }
+{
+    if e.count <= i.0 {
+        return Written::Refused(OUT_OF_RANGE);
+    }
+    let m = e.width;
+    if out.len() < (m + 7) / 8 {
+        return Written::Refused(SHORT_BUFFER);
+    }
+    let mut offsets = no_offsets();
+    path_at(l, t, places, e, i, &mut offsets);
+    let n = write_key(&offsets, m, out);
+    Written::Bytes(n)
+}
+
+// ---- Public calls: the check, then the question
+// Whether a key is a member (document 01: present or not).
+pub fn contains(l: &[u8], key: &[u8]) -> Membership
+    ensures { λ r. ⌜ membershipOutcome r ≡ containsCall (now (l .entry)) (now (key .entry)) ⌝ }
+{
+    let t = bits::tallies();
+    let checked = encoding::check(l, &t);
+    match checked {
+        Checked::Refused(k) => Membership::Refused(k),
+        Checked::Opened(e) => contains_in(l, &t, e, key),
+    }
+}
+
+// A key's index among the members, or that it is none (document 01: lot).
+pub fn index_of(l: &[u8], key: &[u8]) -> Lookup
+    ensures { λ r. ⌜ lookupOutcome r ≡ indexOfCall (now (l .entry)) (now (key .entry)) ⌝ }
+{
+    let t = bits::tallies();
+    let checked = encoding::check(l, &t);
+    match checked {
+        Checked::Refused(k) => Lookup::Refused(k),
+        Checked::Opened(e) => index_of_in(l, &t, e, key),
+    }
+}
+
+// The index of the smallest member not below a key, or that there is none (document 01: seek).
+pub fn lower_bound(l: &[u8], key: &[u8]) -> Bound
+    ensures { λ r. ⌜ boundOutcome r ≡ lowerBoundCall (now (l .entry)) (now (key .entry)) ⌝ }
+{
+    let t = bits::tallies();
+    let checked = encoding::check(l, &t);
+    match checked {
+        Checked::Refused(k) => Bound::Refused(k),
+        Checked::Opened(e) => lower_bound_in(l, &t, e, key),
+    }
+}
+
+// Writes the member at an index to the front of a buffer (document 01: ticket of a lot).
+pub fn key_at(l: &[u8], i: MemberIndex, out: &mut [u8]) -> Written
+    ensures { λ r. ⌜ writtenOutcome r (now (out .exit)) ≡ keyAtCall (now (l .entry)) (i .0) (now (out .entry)) ⌝ }
+{
+    let t = bits::tallies();
+    let checked = encoding::check(l, &t);
+    match checked {
+        Checked::Refused(k) => Written::Refused(k),
+        Checked::Opened(e) => {
+            let places = bits::places();
+            key_at_in(l, &t, &places, e, i, out)
+        }
+    }
+}
