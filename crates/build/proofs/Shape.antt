@@ -5,16 +5,15 @@ use mathlib.Core.Bool.{Bool, true, false}
 use mathlib.Core.List.{List, [], _∷_}
 use native.Mathlib.Omega.{arith}
 use lib.ListN.{length, take}
-use lib.Seq.{take-all, take-add}
+use lib.Seq.{take-all}
 use lib.Dec.{ltb}
 use Rattle.loes.specs.Limits.{blockBits, subBlockBits}
 use Rattle.loes.specs.Bytes.{Bytes, bitsIn}
 use Rattle.loes.specs.Edges.{ones, onesBefore}
 use Rattle.loes.specs.Entry.{keysOf, count, edgesOf, edgeCount}
-use Rattle.loes.specs.Encode.{blockOnes, subBlockOnes, levelEnd}
+use Rattle.loes.specs.Encode.{blockOnes, levelEnd}
 use Rattle.loes.specs.Read.{followed}
 use Rattle.loes.specs.Held.{held, Holds}
-use Rattle.loes.proofs.Lists.{ones-append}
 use Rattle.loes.proofs.Tree.{prefixCount, bit-le}
 use Rattle.loes.proofs.Ends.{roots, ends, ends-set, roots-set, count-set}
 use Rattle.loes.proofs.Reading.{levelEnd-last}
@@ -85,13 +84,6 @@ block-value l b j n e h = let z : 8 * n ≡ blockBits * j = omega arith in ap (�
 
 pub before-value : (l : Bytes) (b j n : ℕ) → n ≡ 64 * j → subBlockBits * j ≤ b → ones (bitsIn l (8 * n)) ≡ onesBefore (bitsIn l b) (subBlockBits * j)
 before-value l b j n e h = let z : 8 * n ≡ subBlockBits * j = omega arith in ap (λ k. ones (bitsIn l k)) z ∙ sym (before-bits l b (subBlockBits * j) h)
-
--- a sub-block's count and its block's are the set bits before it
-pub sub-start : (e : List Bool) (j : ℕ) → blockOnes e (j / 128) + subBlockOnes e j ≡ onesBefore e (subBlockBits * j)
-unfolding blockOnes subBlockOnes onesBefore
-sub-start e j =
-    let z : subBlockBits * j ≡ blockBits * (j / 128) + subBlockBits * (j % 128) = omega arith in
-    rw (z, take-add (blockBits * (j / 128)) (subBlockBits * (j % 128)) e, ones-append)
 
 -- the count of a block is that of its first sub-block
 pub first-sub : (e : List Bool) (j : ℕ) → j % 128 ≡ 0 → onesBefore e (subBlockBits * j) ≡ blockOnes e (j / 128)

@@ -1,11 +1,12 @@
 -- The paths of members are the paths that lead.
 use mathlib.Core.Path.{_≡_, refl, sym, ap, _∙_}
 use Prim.Native.Nat.{ℕ, zero, suc, _≤_, _<_}
-use mathlib.Core.Bool.{Bool, true, false, _||_, false≢true, or-true}
+use mathlib.Core.Bool.{true}
 use mathlib.Core.List.{List, [], _∷_, _++_}
 use native.Mathlib.Omega.{arith}
 use lib.ListN.{length, take, getD}
 use lib.Seq.{take-suc, take-all}
+use Rattle.loes.proofs.Cursors.{any-at, any-is}
 use Rattle.loes.specs.Bytes.{tabulate, sameNumbers}
 use Rattle.loes.specs.Keys.{Key, any, members}
 use Rattle.loes.specs.Edges.{edges, edgeOffsets}
@@ -18,22 +19,6 @@ use Rattle.loes.proofs.Tree.{inhabited, prefixesBefore, prefix-whole, members-a
 use Rattle.query.specs.Paths.{Leading, keyOf}
 use Rattle.query.proofs.Paths.{key-length, offsets-are, leading-ext, leading-less, ofKey, key-of, member-leads, lead-some}
 use Rattle.cursor.proofs.Moves.{path-prefix}
-
-any-at : {A : Type 0} (f : A → Bool) (l : List A) (i : ℕ) (d : A) → i < length l → f (getD l i d) ≡ true → any f l ≡ true
-unfolding any
-any-at f [] i d h g = absurd (omega arith)
-any-at f (x ∷ l) zero d h g = rw g
-any-at f (x ∷ l) (suc i) d h g = rw (any-at f l i d (omega arith) g) (or-true (f x))
-
-any-is : {A : Type 0} (f : A → Bool) (l : List A) (d : A) → any f l ≡ true → (i : ℕ) × (i < length l) × (f (getD l i d) ≡ true)
-unfolding any
-any-is f [] d h = absurd (false≢true h)
-any-is {A} f (x ∷ l) d h = go (f x) refl h (any-is f l d)
-  where
-    go : (b : Bool) → f x ≡ b → (b || any f l) ≡ true → (any f l ≡ true → (i : ℕ) × (i < length l) × (f (getD l i d) ≡ true))
-        → (i : ℕ) × (i < suc (length l)) × (f (getD (x ∷ l) i d) ≡ true)
-    go true z h g = (0, omega arith, z)
-    go false z h g = let r = g h in (suc (r .0), omega (arith, r .1), r .2)
 
 -- the first n of a list, by place
 pub take-tabulate : (l : List ℕ) (n : ℕ) → n ≤ length l → take n l ≡ tabulate (λ (i : ℕ). getD l i 0) n

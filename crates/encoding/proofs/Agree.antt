@@ -9,7 +9,7 @@ use lib.ListN.{length, take, drop, getD, length-drop, take-append-drop}
 use lib.Dec.{eqb}
 use Rattle.loes.specs.Limits.{blockBits, subBlockBits}
 use Rattle.loes.specs.Bytes.{Bytes, started, numberAt, bitsIn, packBits, sameNumbers}
-use Rattle.loes.specs.Keys.{KeySet, members}
+use Rattle.loes.specs.Keys.{KeySet}
 use Rattle.loes.specs.Edges.{ones, edges}
 use Rattle.loes.specs.Entry.{Entry, keysOf, count, edgesOf, edgeCount}
 use Rattle.loes.specs.Encode.{blockOnes, subBlockOnes, levelEnd, edgeBody, encode}

@@ -9,8 +9,9 @@ use Rattle.loes.specs.Limits.{maxWidth, maxEdges, blockBits, subBlockBits}
 use Rattle.loes.specs.Bytes.{Bytes, started, numberAt, bitAt, bitsIn}
 use Rattle.loes.specs.Entry.{Entry, edgesOf, edgeCount, Valid}
 use Rattle.loes.specs.Encode.{blockOnes, subBlockOnes, encode}
-use Rattle.loes.specs.Read.{start4, start5, start6, endOf, edgesIn, followed, entryIn, opened}
+use Rattle.loes.specs.Read.{start4, start5, start6, endOf, edgesIn, followed, entryIn}
 use Rattle.loes.specs.Held.{held, Holds}
+use Rattle.loes.proofs.Lent.{end-most}
 use Rattle.loes.proofs.Bytes.{getD-tabulate}
 use Rattle.loes.proofs.Reading.{reads-exactly, encode-length, edges-read}
 use Rattle.loes.proofs.Seven.{Agrees, encode-agrees}
@@ -20,10 +21,6 @@ use Rattle.encoding.specs.Opened.{Opens, Placed, Room, Counted, edgesAt}
 
 -- ---- Where the fields lie
 -- an encoding of at most so many bytes
-pub end-le : (m b : ℕ) → m ≤ maxWidth → b ≤ maxEdges → endOf m b ≤ 68695
-unfolding endOf start6 start5 start4 started
-end-le m b h k = omega arith
-
 pub placed-self : (m n b : ℕ) (e : Encoding) → Placed m n b e → Placed (e .width) (e .count) (e .bits) e
 placed-self m n b e p =
     record {
@@ -41,7 +38,7 @@ placed-room l m n b e h k p q =
     record {
       narrow = omega (arith, p .width);
       few = omega (arith, p .bits);
-      bytes = omega (arith, end-le m b h k);
+      bytes = omega (arith, end-most m b h k);
       levels = omega (arith, p .width);
       edges = rw (p .edges, p .bits) (omega arith);
       blocks = rw (p .blocks, p .bits) (omega arith);

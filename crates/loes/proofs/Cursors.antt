@@ -52,13 +52,13 @@ zeros-is (x ∷ l) h = go (eqb x 0) refl h (zeros-is l)
     go true z h f = ap₂ _∷_ (yes-eq x 0 z) (f h)
     go false z h f = absurd (false≢true h)
 
-any-at : {A : Type 0} (f : A → Bool) (l : List A) (i : ℕ) (d : A) → i < length l → f (getD l i d) ≡ true → any f l ≡ true
+pub any-at : {A : Type 0} (f : A → Bool) (l : List A) (i : ℕ) (d : A) → i < length l → f (getD l i d) ≡ true → any f l ≡ true
 unfolding any
 any-at f [] i d h g = absurd (omega arith)
 any-at f (x ∷ l) zero d h g = rw g
 any-at f (x ∷ l) (suc i) d h g = rw (any-at f l i d (omega arith) g) (or-true (f x))
 
-any-is : {A : Type 0} (f : A → Bool) (l : List A) (d : A) → any f l ≡ true → (i : ℕ) × (i < length l) × (f (getD l i d) ≡ true)
+pub any-is : {A : Type 0} (f : A → Bool) (l : List A) (d : A) → any f l ≡ true → (i : ℕ) × (i < length l) × (f (getD l i d) ≡ true)
 unfolding any
 any-is f [] d h = absurd (false≢true h)
 any-is {A} f (x ∷ l) d h = go (f x) refl h (any-is f l d)

@@ -52,7 +52,7 @@ encode-bytes e =
     (bytes-append (field 5 (blockBody e)) _ (bytes-field 5 (blockBody e) (omega arith) (bytes-numbers 8 (blockOnes (edgesOf e)) (started blockBits (edgeCount e))))
     (bytes-append (field 6 (subBlockBody e)) [] (bytes-field 6 (subBlockBody e) (omega arith) (bytes-numbers 2 (subBlockOnes (edgesOf e)) (started subBlockBits (edgeCount e)))) tt)))))
 
-end-most : (m b : ℕ) → m ≤ 256 → b ≤ 524280 → endOf m b ≤ 68695
+pub end-most : (m b : ℕ) → m ≤ 256 → b ≤ 524280 → endOf m b ≤ 68695
 unfolding endOf start6 start5 start4 started
 end-most m b h g = omega arith
 

@@ -1,7 +1,7 @@
 -- The key of a path, byte by byte
 use mathlib.Core.Path.{_≡_, refl, sym, ap, _∙_}
 use Prim.Native.Nat.{ℕ, suc, _+_, _*_, _/_, _%_, _≤_, _<_}
-use mathlib.Core.Bool.{Bool, false}
+use mathlib.Core.Bool.{false}
 use mathlib.Core.List.{List, [], _∷_, _++_, append-assoc}
 use native.Mathlib.Omega.{arith}
 use native.Mathlib.Decide.{le-ind}
@@ -9,7 +9,7 @@ use lib.ListN.{length, drop, getD, set, List·getD-eq-default}
 use lib.Seq.{drop-cons, set-append-seam}
 use Rattle.loes.specs.Bytes.{bit, odd, tabulate, bitsValue, byteOf, packBits, started, front}
 use Rattle.loes.specs.Keys.{Key}
-use Rattle.loes.proofs.Bits.{bit-odd, bitsValue-lt}
+use Rattle.loes.proofs.Bits.{bitsValue-snoc, bit-odd, bitsValue-lt}
 use Rattle.loes.proofs.Bytes.{length-tabulate, getD-tabulate}
 use Rattle.query.specs.Paths.{keyOf, pathKey}
 use Rattle.query.proofs.Paths.{key-length}
@@ -25,11 +25,6 @@ bit-out os m q h = ap bit (sym (List·getD-eq-default (tabulate (λ (i : ℕ). o
 -- the first e bits of byte j
 unfoldable pub upTo : Key → ℕ → ℕ → ℕ
 upTo k j e = bitsValue (tabulate (λ (x : ℕ). getD k (8 * j + x) false) e) 0
-
-bitsValue-snoc : (l : List Bool) (b : Bool) (acc : ℕ) → bitsValue (l ++ b ∷ []) acc ≡ 2 * bitsValue l acc + bit b
-unfolding bitsValue
-bitsValue-snoc [] b acc = refl
-bitsValue-snoc (x ∷ l) b acc = bitsValue-snoc l b (2 * acc + bit x)
 
 pub byte-none : (k : Key) (j : ℕ) → _≡_ {A = ℕ} 0 (upTo k j 0)
 unfolding upTo bitsValue tabulate

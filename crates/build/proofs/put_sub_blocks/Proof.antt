@@ -12,9 +12,10 @@ use Rattle.loes.specs.Bytes.{Bytes, started, tabulate, bigEndian, bigEndians, b
 use Rattle.loes.specs.Edges.{ones, onesBefore}
 use Rattle.loes.specs.Encode.{field, blockOnes, subBlockOnes}
 use Rattle.loes.proofs.Bytes.{length-bigEndian, length-bigEndians}
+use Rattle.encoding.proofs.Index.{sub-block-start}
 use Rattle.build.specs.Writing.{Counts}
 use Rattle.build.proofs.Front.{front-start, length-front, numbers-now, numbers-room, numbers-more, numbers-field, field-long}
-use Rattle.build.proofs.Shape.{before-value, sub-start, first-sub}
+use Rattle.build.proofs.Shape.{before-value, first-sub}
 use Rattle.build.proofs.put_sub_blocks.Statement.{statement}
 use Rattle.build.proofs.put_sub_blocks.Tie as tie
 
@@ -116,10 +117,10 @@ module _ (c : tie.After-block-base Inv-loop μ-loop) where
       ]
 
   difference : c .before .count-to .result .ones - c .block-base .result ≡ subBlockOnes e (loop .loop .j)
-  difference = omega (arith, counted, based, sub-start e (loop .loop .j))
+  difference = omega (arith, counted, based, sub-block-start e (loop .loop .j))
 
   base-le : c .block-base .result ≤ c .before .count-to .result .ones
-  base-le = omega (arith, counted, based, sub-start e (loop .loop .j))
+  base-le = omega (arith, counted, based, sub-block-start e (loop .loop .j))
 
 mul-at : tie.Need-mul-at Inv-loop μ-loop
 mul-at c = omega arith

@@ -13,7 +13,7 @@ use Rattle.loes.specs.Read.{edgeBytes, blockBytes, subBlockBytes, start4, start
 use Rattle.loes.proofs.Tests.{lt-yes, lt-no}
 use Rattle.loes.proofs.Reading.{field-fits}
 use Rattle.encoding.specs.Fields.{refusalOf, bodyBytes}
-use Rattle.encoding.proofs.Opened.{end-le}
+use Rattle.loes.proofs.Lent.{end-most}
 use Rattle.encoding.proofs.Fields.{stops, refuses, passes, passed-by, all-passed, holds, clear}
 use Rattle.encoding.proofs.tail_refusal.Statement.{statement}
 use Rattle.encoding.proofs.tail_refusal.Tie as tie
@@ -118,7 +118,7 @@ end-is : (c : tie.After-started-by) → let s = third (c .before .before) in
 unfolding endOf
 end-is c =
     let s = third (c .before .before) in
-    (omega (arith, s .pre .0 .sub-blocks, c .started-by .ensures .0), unfold endOf in end-le (width s) (edgeBits s) (s .pre .1) (s .pre .2))
+    (omega (arith, s .pre .0 .sub-blocks, c .started-by .ensures .0), unfold endOf in end-most (width s) (edgeBits s) (s .pre .1) (s .pre .2))
 
 started-by-requires : tie.Need-started-by-requires
 started-by-requires c κs = search needs
