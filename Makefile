@@ -1,9 +1,29 @@
-# `make test` passes everything; its last line is rt's 'N passed, 0 failed'.
-.PHONY: test format
+# `make run` prints the sample; `make test` passes everything, and its last line is rt's 'N passed, 0 failed'.
+.PHONY: run test format rust soak bench
 
-test: format
+# the program on document 01's example P2
+run:
+	@rt check show > /dev/null
+	@target/bin/show < crates/show/stdin
+
+test: format rust
 	rt ci
 
 # every file is in rt's layout
 format:
 	rt fmt --check
+
+# the compiled library against plain sets
+rust: target/staticlib/libcapi.a
+	cd rust && cargo test --offline --release
+
+target/staticlib/libcapi.a: $(shell find crates -name '*.rt' -o -name '*.antt') crates.txt
+	rt staticlib capi
+
+# the same for longer, with more and larger cases
+soak: target/staticlib/libcapi.a
+	cd rust && LOES_ROUNDS=20 cargo test --offline --release
+
+# the library beside the same algorithms in plain Rust and beside what else one would use
+bench: target/staticlib/libcapi.a
+	cd rust && cargo bench --offline

@@ -1,0 +1,3 @@
+-- From the calls' answers to their codes.
+pub mod Codes
+pub mod Steps

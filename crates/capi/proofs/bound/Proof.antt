@@ -1,0 +1,46 @@
+use Rattle.query.specs.Answers.{boundOutcome}
+use Rattle.capi.proofs.Codes.{by-case}
+use borrow.Author.Needs.{needs}
+use Rattle.capi.proofs.bound.Statement.{statement}
+use Rattle.capi.proofs.bound.Tie as tie
+
+enum-known-a : tie.Need-enum-known-a
+enum-known-a c = search needs
+
+refused-requires : tie.Need-refused-requires
+refused-requires c κs = search needs
+
+enum-known-a-2 : tie.Need-enum-known-a-2
+enum-known-a-2 c = search needs
+
+value-requires : tie.Need-value-requires
+value-requires c κs = search needs
+
+enum-told : tie.Need-enum-told
+enum-told c = search needs
+
+absent-requires : tie.Need-absent-requires
+absent-requires c κs = search needs
+
+returns : tie.Need-returns
+returns c = by-case boundOutcome (c .before .before .a .given .1) (c .refused .ensures)
+
+returns-2 : tie.Need-returns-2
+returns-2 c = by-case boundOutcome (c .before .before .a2 .given .1) (c .value .ensures)
+
+returns-3 : tie.Need-returns-3
+returns-3 c = by-case boundOutcome (c .before .enum-told .given .1) (c .absent .ensures)
+
+pub bound-spec : {M : Type 1} → statement M
+bound-spec =
+    tie.close
+    (tie.spec
+    enum-known-a
+    refused-requires
+    enum-known-a-2
+    value-requires
+    enum-told
+    absent-requires
+    returns
+    returns-2
+    returns-3)

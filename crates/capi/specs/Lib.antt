@@ -1,0 +1,3 @@
+-- What each call answers, as C has it.
+pub mod Coded
+pub mod Steps

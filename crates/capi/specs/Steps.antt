@@ -1,0 +1,58 @@
+-- A cursor and its step as C has them: a state's number and a list of offsets.
+use Prim.Native.Nat.{ℕ}
+use mathlib.Core.Bool.{Bool, _&&_, cond}
+use mathlib.Core.List.{List}
+use lib.ListN.{length}
+use lib.Dec.{eqb, ltb}
+use Rattle.loes.specs.Limits.{maxWidth}
+use Rattle.loes.specs.Bytes.{Bytes}
+use Rattle.loes.specs.Refusals.{badCursor}
+use Rattle.loes.specs.Read.{Reading, rejected, opened, read}
+use Rattle.loes.specs.Model.{Answer, refused}
+use Rattle.loes.specs.Cursor.{State, before, at, after, Cursor, Advanced, advance}
+use Rattle.capi.specs.declared.Step.{Step}
+use Rattle.capi.specs.Coded.{codeOf}
+
+-- a step's answer, the offsets and the output buffer at exit
+pub record Walked : Type 0 where
+  pub step : Step
+  pub offsets : List ℕ
+  pub buffer : Bytes
+
+abbrev pub walks : Step → List ℕ → Bytes → Walked
+walks r os out = record { step = r; offsets = os; buffer = out }
+
+abbrev pub stateCode : State → ℕ
+stateCode before = 0
+stateCode at = 1
+stateCode after = 2
+
+-- the state of a number below 3
+abbrev pub stateIn : ℕ → State
+stateIn s = cond (eqb s 0) before (cond (eqb s 1) at after)
+
+abbrev pub cursorIn : ℕ → List ℕ → Cursor
+cursorIn s os = record { state = stateIn s; offsets = os }
+
+-- a number of a state, and an offset for each level that there can be
+unfoldable pub isCoded : ℕ → List ℕ → Bool
+isCoded s os = ltb s 3 && eqb (length os) maxWidth
+
+-- an answer, and the number of the state after it
+abbrev pub stepCode : Answer → ℕ → Step
+stepCode a s = record { kind = codeOf a .kind; value = codeOf a .value; state = s }
+
+abbrev pub walkedBy : Advanced → Walked
+walkedBy a = walks (stepCode (a .answer) (stateCode (a .cursor .state))) (a .cursor .offsets) (a .buffer)
+
+-- refused: state, offsets and buffer keep their values
+abbrev pub keeps : ℕ → ℕ → List ℕ → Bytes → Walked
+keeps k s os out = walks (stepCode (refused k) s) os out
+
+-- the encoding's refusals, then 15 for what is no cursor, then the model's step
+unfoldable pub stepAfter : Reading → ℕ → List ℕ → Bytes → Walked
+stepAfter (rejected k) s os out = keeps k s os out
+stepAfter (opened e) s os out = cond (isCoded s os) (walkedBy (advance e (cursorIn s os) out)) (keeps badCursor s os out)
+
+unfoldable pub stepCall : Bytes → ℕ → List ℕ → Bytes → Walked
+stepCall l s os out = stepAfter (read l) s os out

@@ -1,0 +1,4 @@
+// Prints the encoding on standard input.
+fn main() {
+    printing::print_input();
+}

@@ -1,0 +1,176 @@
+/*
+ * loes: sets of keys of one width in a succinct byte encoding.
+ *
+ * A key has `width` bits, 1 to 256, and takes width/8 bytes, rounded up: bit 0 is the most
+ * significant bit of the first byte, unused low bits of the last byte are zero. Keys are ordered
+ * by their bytes. An encoding is a set of keys of one width in at most LOES_MAX_BYTES bytes; one
+ * set has exactly one encoding.
+ *
+ * Conventions, for every call:
+ *
+ *   - Byte strings are lent as a pointer and a length. The pointer is never null, also where the
+ *     length is 0. What is lent as `const` is only read; what is lent for output shares no byte
+ *     with anything else lent to the same call. Two encodings may be the same bytes.
+ *   - Any content and any length is legal. Nothing is trusted: an encoding is checked whole before
+ *     it is used. (The loes_opened_ calls at the end are the exception; they say what they require.)
+ *   - A refused call answers with the number of the first refusal that holds, in the order of the
+ *     call, and changes nothing: every lent byte and every offset keeps its value.
+ *   - An accepted result stands at the front of the output buffer; the bytes behind it keep their
+ *     values.
+ *   - No call allocates, keeps a pointer or has state of its own; every call may be made from
+ *     several threads at once. What a call works with is on the stack: allow it 1 MiB.
+ *
+ * Link with target/staticlib/libcapi.a, made by `rt staticlib capi`.
+ */
+#ifndef LOES_H
+#define LOES_H
+
+#include <stddef.h>
+#include <stdint.h>
+
+#ifdef __cplusplus
+extern "C" {
+#endif
+
+/* The numbers of the format. */
+#define LOES_MAX_WIDTH 256u      /* the greatest width of a key, in bits */
+#define LOES_MAX_EDGES 524280u   /* the most bits that an edge sequence may have */
+#define LOES_BLOCK_BITS 65536u   /* the edge bits of a block */
+#define LOES_SUB_BLOCK_BITS 512u /* the edge bits of a sub-block */
+#define LOES_MAX_BYTES 68695u    /* no encoding is longer: width 256 and 524,280 edge bits */
+#define LOES_MAX_KEY_BYTES 32u   /* no key is longer */
+#define LOES_CURSOR_OFFSETS 256u /* the offsets of a cursor, one for each level that there can be */
+
+/* What is wrong, in the order of the numbers. */
+typedef enum loes_refusal {
+    /* whoever sent the encoding */
+    LOES_TRUNCATED = 1,       /* fewer than 3 bytes remain for a field's tag and length, or fewer than its length says */
+    LOES_WRONG_TAG = 2,       /* a tag outside 1 to 6, or out of its turn */
+    LOES_WRONG_LENGTH = 3,    /* a field length other than the one laid down */
+    LOES_BAD_WIDTH = 4,       /* width 0 or above 256; also the caller of loes_pack */
+    LOES_TOO_LARGE = 5,       /* more than 524,280 edge bits; also whoever packs or joins to such a result */
+    LOES_TRAILING_BYTES = 6,  /* bytes after the sixth field */
+    LOES_NOT_AN_ENCODING = 7, /* well-formed fields that are the encoding of no set */
+    /* whoever asks a question */
+    LOES_BAD_KEY = 8,         /* a key of another length than the width's, or with an unused bit set */
+    LOES_OUT_OF_RANGE = 9,    /* a member index not below the count, or an edge offset not below the edge bits */
+    /* whoever sent a batch */
+    LOES_RAGGED_BATCH = 10,   /* a byte count that is no multiple of a key's */
+    LOES_UNUSED_BIT_SET = 11, /* a key with an unused bit set */
+    LOES_DESCENDING = 12,     /* a key smaller than the one before it */
+    /* whoever joins encodings */
+    LOES_TWO_WIDTHS = 13,     /* two widths */
+    /* whoever lends memory */
+    LOES_SHORT_BUFFER = 14,   /* an output buffer shorter than the accepted result */
+    LOES_BAD_CURSOR = 15      /* a cursor that is neither before, nor after, nor the path of a member, or has an unused offset other than 0 */
+} loes_refusal;
+
+/* The kinds of an answer. */
+enum {
+    LOES_VALUE = 0,  /* `value` is the answer */
+    LOES_ABSENT = 1, /* the key is absent, or there is none */
+    LOES_REFUSED = 2 /* refused; `value` (in loes_opened: `width`) is a loes_refusal */
+};
+
+/* The states of a cursor. */
+enum {
+    LOES_BEFORE = 0, /* before the first member; every offset is 0 */
+    LOES_AT = 1,     /* at a member: one edge offset for each level, and 0 behind them */
+    LOES_AFTER = 2   /* after the last member; every offset is 0 */
+};
+
+typedef struct loes_answer {
+    uint64_t kind;
+    uint64_t value;
+} loes_answer;
+
+/* An opened encoding: its numbers, and where the bodies of fields 4 to 6 begin. */
+typedef struct loes_opened {
+    uint64_t kind;       /* LOES_VALUE: opened; LOES_REFUSED: refused, with the number in `width` */
+    uint64_t width;      /* bits of a key */
+    uint64_t count;      /* members */
+    uint64_t bits;       /* edge bits */
+    uint64_t edges;      /* place of the body of field 4 */
+    uint64_t blocks;     /* of field 5 */
+    uint64_t sub_blocks; /* of field 6 */
+} loes_opened;
+
+typedef struct loes_step {
+    uint64_t kind;  /* LOES_VALUE or LOES_REFUSED */
+    uint64_t value; /* bytes written, 0 if the cursor is now after; or the refusal */
+    uint64_t state; /* the cursor's state after the step */
+} loes_step;
+
+/* ---- Opening ---- */
+
+/* Checks the encoding whole and tells its numbers. Refusals, in order: for each field from the
+ * front 1 (head), 2, 3, 1 (body), with 4 after field 1 and 5 after field 3; then 6, then 7. */
+loes_opened loes_open(const uint8_t *encoding, size_t length);
+
+/* ---- Building: the value is the length of the encoding written to the front of `out` ---- */
+
+/* The encoding of the keys of a batch: keys of `width` bits laid end to end in rising order, equal
+ * neighbours counting once. Refusals: 4, 10, then key by key 11 and 12, then 5, 14. */
+loes_answer loes_pack(uint64_t width, const uint8_t *batch, size_t length, uint8_t *out, size_t room);
+
+/* The keys in either set. Refusals: those of opening the first, of opening the second, 13, 5, 14. */
+loes_answer loes_union(const uint8_t *first, size_t first_length, const uint8_t *second, size_t second_length,
+                       uint8_t *out, size_t room);
+
+/* The keys in the first set but not in the second. Refusals: as loes_union. */
+loes_answer loes_difference(const uint8_t *first, size_t first_length, const uint8_t *second, size_t second_length,
+                            uint8_t *out, size_t room);
+
+/* ---- Questions. Refusals: those of opening, then the one named ---- */
+
+/* Whether the key is a member: LOES_VALUE with 1, or LOES_ABSENT. Refusal 8. */
+loes_answer loes_contains(const uint8_t *encoding, size_t length, const uint8_t *key, size_t key_length);
+
+/* The key's member index, how many members are smaller; or LOES_ABSENT. Refusal 8. */
+loes_answer loes_index_of(const uint8_t *encoding, size_t length, const uint8_t *key, size_t key_length);
+
+/* The member index of the smallest member not below the key; LOES_ABSENT if there is none. Refusal 8. */
+loes_answer loes_lower_bound(const uint8_t *encoding, size_t length, const uint8_t *key, size_t key_length);
+
+/* Writes the key of a member index to the front of `out`; the value is its length. Refusals 9, 14. */
+loes_answer loes_key_at(const uint8_t *encoding, size_t length, uint64_t index, uint8_t *out, size_t room);
+
+/* The set edge bits at offsets 0 to `offset`, `offset` included. Refusal 9. */
+loes_answer loes_rank(const uint8_t *encoding, size_t length, uint64_t offset);
+
+/* ---- Walking ---- */
+
+/* Moves a cursor on to the next member and writes that member's key to the front of `out`. A
+ * cursor is a state and LOES_CURSOR_OFFSETS offsets; it starts as LOES_BEFORE with every offset 0.
+ * The offsets are changed in place, the new state is answered and is to be given to the next call.
+ * From before it goes to the first member, from the last member to after, and after stays after;
+ * going to after writes nothing and the value is 0. Refusals, after those of opening: 15 (also for
+ * a state that is none of the three and a `count` other than 256), 14 (not when going to after). */
+loes_step loes_advance(const uint8_t *encoding, size_t length, uint64_t state, uint64_t *offsets, size_t count,
+                       uint8_t *out, size_t room);
+
+/*
+ * ---- Behind the check ----
+ *
+ * The same calls on an encoding that has been opened: they do not check it again. REQUIRED of the
+ * caller: `opened` is what loes_open answered, with kind LOES_VALUE, for exactly these bytes and
+ * this length, and the bytes have not changed since. Otherwise the behaviour is undefined. Keys,
+ * indices, offsets, cursors and output buffers are tested as above, with the same refusals.
+ */
+loes_answer loes_opened_contains(loes_opened opened, const uint8_t *encoding, size_t length,
+                                 const uint8_t *key, size_t key_length);
+loes_answer loes_opened_index_of(loes_opened opened, const uint8_t *encoding, size_t length,
+                                 const uint8_t *key, size_t key_length);
+loes_answer loes_opened_lower_bound(loes_opened opened, const uint8_t *encoding, size_t length,
+                                    const uint8_t *key, size_t key_length);
+loes_answer loes_opened_key_at(loes_opened opened, const uint8_t *encoding, size_t length,
+                               uint64_t index, uint8_t *out, size_t room);
+loes_answer loes_opened_rank(loes_opened opened, const uint8_t *encoding, size_t length, uint64_t offset);
+loes_step loes_opened_advance(loes_opened opened, const uint8_t *encoding, size_t length,
+                              uint64_t state, uint64_t *offsets, size_t count, uint8_t *out, size_t room);
+
+#ifdef __cplusplus
+}
+#endif
+
+#endif

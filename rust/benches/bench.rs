@@ -1,0 +1,414 @@
+//! The library against the same algorithms in plain Rust, and against what one would use instead: a sorted array, `BTreeSet`,
+//! `HashSet`. All in one run, on the same keys; the least of LOES_REPS repetitions (default 9). Output buffers are made before
+//! the clock starts and not cleared between repetitions. Prints markdown.
+//!
+//! `cargo bench`, or `cargo bench --no-default-features` for everything but the library.
+
+mod plain_rust;
+
+use std::collections::{BTreeSet, HashSet};
+use std::hint::black_box;
+use std::process::Command;
+use std::time::Instant;
+
+fn main() {
+    let args: Vec<String> = std::env::args().collect();
+    if let Some(at) = args.iter().position(|arg| arg == "--memory") {
+        let number = |i: usize| args[at + i].parse().unwrap();
+        println!("{}", resident(&args[at + 1], number(2), number(3)));
+        return;
+    }
+    println!(
+        "Times in ns: pack, union and difference for each key of either operand, iteration for each key, the others for each call."
+    );
+    println!("Memory in bytes for each key. Ratio: library to plain Rust.");
+    // widths up to the limit of 524,280 edge bits
+    let tables = [
+        table(random_keys::<2>(20_000), "random"),
+        table(random_keys::<4>(12_000), "random"),
+        table(random_keys::<8>(4_900), "random"),
+        table(random_keys::<32>(1_030), "random"),
+    ];
+    for table in &tables {
+        table.print();
+    }
+    table(clustered_keys(100, 500), "clustered").print();
+    println!("\n## Growth with the width\n");
+    growth(&tables);
+    println!("\n## Growth with the number of keys, width 32\n");
+    growth(&[16, 64, 256, 1_024, 4_096, 12_000].map(|n| table(random_keys::<4>(n), "random")));
+}
+
+// ---- Measuring
+
+fn repetitions() -> usize {
+    std::env::var("LOES_REPS").map_or(9, |text| text.parse().expect("LOES_REPS is a number"))
+}
+
+fn nanoseconds<R>(mut call: impl FnMut() -> R) -> f64 {
+    let start = Instant::now();
+    black_box(call());
+    start.elapsed().as_nanos() as f64
+}
+
+/// Least time of a call that does so many things, for each of them.
+fn least<R>(things: usize, mut call: impl FnMut() -> R) -> f64 {
+    let times = (0..repetitions()).map(|_| nanoseconds(&mut call));
+    times.fold(f64::MAX, f64::min) / things as f64
+}
+
+/// The same of two calls, taking turns.
+#[cfg(feature = "linked")]
+fn in_turns<R, S>(things: usize, mut one: impl FnMut() -> R, mut other: impl FnMut() -> S) -> (f64, f64) {
+    let times = (0..repetitions()).map(|_| (nanoseconds(&mut one), nanoseconds(&mut other)));
+    let (x, y) = times.fold((f64::MAX, f64::MAX), |(x, y), (a, b)| (x.min(a), y.min(b)));
+    (x / things as f64, y / things as f64)
+}
+
+/// The library, if it is linked, and plain Rust.
+macro_rules! compare {
+    ($things:expr, $library:expr, $plain:expr) => {{
+        #[cfg(feature = "linked")]
+        let (library, plain) = in_turns($things, $library, $plain);
+        #[cfg(feature = "linked")]
+        let library = Some(library);
+        #[cfg(not(feature = "linked"))]
+        let (library, plain) = (None, least($things, $plain));
+        (library, Some(plain))
+    }};
+}
+
+/// Each is asked for.
+fn each<T, R>(asked: &[T], mut ask: impl FnMut(&T) -> R) {
+    for one in asked {
+        black_box(ask(black_box(one)));
+    }
+}
+
+struct Rng(u64);
+
+impl Rng {
+    /// splitmix64
+    fn next(&mut self) -> u64 {
+        self.0 = self.0.wrapping_add(0x9E37_79B9_7F4A_7C15);
+        let mut z = self.0;
+        z = (z ^ (z >> 30)).wrapping_mul(0xBF58_476D_1CE4_E5B9);
+        z = (z ^ (z >> 27)).wrapping_mul(0x94D0_49BB_1331_11EB);
+        z ^ (z >> 31)
+    }
+
+    fn key<const T: usize>(&mut self) -> [u8; T] {
+        let mut key = [0; T];
+        for part in key.chunks_mut(8) {
+            part.copy_from_slice(&self.next().to_be_bytes()[..part.len()]);
+        }
+        key
+    }
+}
+
+fn random_keys<const T: usize>(n: usize) -> Vec<[u8; T]> {
+    let mut rng = Rng(n as u64);
+    let mut keys = BTreeSet::new();
+    while keys.len() < n {
+        keys.insert(rng.key::<T>());
+    }
+    keys.into_iter().collect()
+}
+
+/// Keys of 64 bits in runs: one in two numbers of each.
+fn clustered_keys(runs: usize, each: usize) -> Vec<[u8; 8]> {
+    let mut rng = Rng(3);
+    let mut keys = BTreeSet::new();
+    for _ in 0..runs {
+        let mut number = rng.next() >> 20 << 20;
+        for _ in 0..each {
+            number += 1 + rng.next() % 3;
+            keys.insert(number.to_be_bytes());
+        }
+    }
+    keys.into_iter().collect()
+}
+
+// ---- Memory: what many copies take, in a process of their own
+
+/// Bytes for each key of a set of n keys of t bytes.
+fn memory(kind: &str, t: usize, n: usize) -> Option<f64> {
+    let program = std::env::current_exe().ok()?;
+    let output = Command::new(program).args(["--memory", kind, &t.to_string(), &n.to_string()]).output().ok()?;
+    String::from_utf8(output.stdout).ok()?.trim().parse().ok()
+}
+
+fn resident(kind: &str, t: usize, n: usize) -> f64 {
+    match t {
+        2 => copies::<2>(kind, n),
+        4 => copies::<4>(kind, n),
+        8 => copies::<8>(kind, n),
+        _ => copies::<32>(kind, n),
+    }
+}
+
+fn copies<const T: usize>(kind: &str, n: usize) -> f64 {
+    fn grown<S: Clone>(set: S, times: usize) -> f64 {
+        let resident = || {
+            let status = std::fs::read_to_string("/proc/self/status").unwrap();
+            let line = status.lines().find(|line| line.starts_with("VmRSS")).unwrap();
+            1_024.0 * line.split_whitespace().nth(1).unwrap().parse::<f64>().unwrap()
+        };
+        let before = resident();
+        let sets = vec![set; times];
+        let after = resident();
+        black_box(&sets);
+        after - before
+    }
+    let keys = random_keys::<T>(n);
+    let times = 100_000_000 / (2 * n * (T + 8)) + 1;
+    let bytes = match kind {
+        "array" => grown(keys, times),
+        "tree" => grown(keys.into_iter().collect::<BTreeSet<_>>(), times),
+        _ => grown(keys.into_iter().collect::<HashSet<_>>(), times),
+    };
+    bytes / (n * times) as f64
+}
+
+// ---- One table
+
+const COLUMNS: [&str; 6] = ["library", "plain Rust", "ratio", "sorted array", "BTreeSet", "HashSet"];
+
+struct Row {
+    name: &'static str,
+    library: Option<f64>,
+    plain: Option<f64>,
+    others: [Option<f64>; 3],
+}
+
+struct Table {
+    shape: &'static str,
+    width: usize,
+    count: usize,
+    bits: usize,
+    rows: Vec<Row>,
+}
+
+/// A sorted array, tested as pack tests its batch.
+fn rising<const T: usize>(mut keys: Vec<[u8; T]>) -> Vec<[u8; T]> {
+    assert!(keys.is_sorted());
+    keys.dedup();
+    keys
+}
+
+fn join<const T: usize>(a: &[[u8; T]], b: &[[u8; T]], keep: impl Fn(bool, bool) -> bool) -> Vec<[u8; T]> {
+    let (mut i, mut j) = (0, 0);
+    let mut out = Vec::with_capacity(a.len() + b.len());
+    while i < a.len() || j < b.len() {
+        let (x, y) = (a.get(i), b.get(j));
+        let in_a = y.is_none() || x.is_some_and(|x| Some(x) <= y);
+        let in_b = x.is_none() || y.is_some_and(|y| Some(y) <= x);
+        if keep(in_a, in_b) {
+            out.push(if in_a { a[i] } else { b[j] });
+        }
+        i += usize::from(in_a);
+        j += usize::from(in_b);
+    }
+    out
+}
+
+fn table<const T: usize>(keys: Vec<[u8; T]>, shape: &'static str) -> Table {
+    let (width, n) = (8 * T, keys.len());
+    let batch: Vec<u8> = keys.iter().flatten().copied().collect();
+    let mut out = vec![0u8; 68_695];
+    let length = plain_rust::pack(width as u64, &batch, &mut out).expect("the keys are within the limits");
+    let bytes = out[..length].to_vec();
+    let opened = plain_rust::open(&bytes).unwrap();
+    #[cfg(feature = "linked")]
+    let encoding = {
+        assert!(loes::pack_to_vec(width as u64, &batch).unwrap() == bytes, "the library and plain Rust pack the same bytes");
+        loes::Encoding::open(&bytes).unwrap()
+    };
+    let tree: BTreeSet<[u8; T]> = keys.iter().copied().collect();
+    let hash: HashSet<[u8; T]> = keys.iter().copied().collect();
+    // two sets that share a third of the keys, and have them all together
+    let part = |without: usize| -> Vec<[u8; T]> {
+        keys.iter().enumerate().filter(|(i, _)| i % 3 != without).map(|(_, key)| *key).collect()
+    };
+    let (a, b) = (part(0), part(1));
+    let packed = |keys: &[[u8; T]]| {
+        let mut out = vec![0u8; 68_695];
+        let length = plain_rust::pack(width as u64, &keys.concat(), &mut out).unwrap();
+        out.truncate(length);
+        out
+    };
+    let (pa, pb) = (packed(&a), packed(&b));
+    let (ta, tb): (BTreeSet<_>, BTreeSet<_>) = (a.iter().copied().collect(), b.iter().copied().collect());
+    let (ha, hb): (HashSet<_>, HashSet<_>) = (a.iter().copied().collect(), b.iter().copied().collect());
+    // half of the questions are for members
+    let mut rng = Rng(7);
+    let asked: Vec<[u8; T]> = (0..1_000).map(|i| if i % 2 == 0 { keys[rng.next() as usize % n] } else { rng.key() }).collect();
+    let indices: Vec<u64> = (0..1_000).map(|_| rng.next() % n as u64).collect();
+    let offsets: Vec<u64> = (0..1_000).map(|_| rng.next() % opened.bits as u64).collect();
+    #[cfg(feature = "linked")]
+    let (mut room, mut buffer) = (out.clone(), [0u8; T]);
+    let mut key = [0u8; T];
+    let m = width as u64;
+
+    let mut rows = Vec::new();
+    let mut row = |name, (library, plain), others| rows.push(Row { name, library, plain, others });
+    let per_key = Some(bytes.len() as f64 / n as f64);
+    row("memory", (per_key, per_key), ["array", "tree", "hash"].map(|kind| memory(kind, T, n)));
+    let chunks = || batch.chunks_exact(T).map(|key| <[u8; T]>::try_from(key).unwrap());
+    row(
+        "pack",
+        compare!(n, || loes::pack(m, &batch, &mut room), || plain_rust::pack(m, &batch, &mut out)),
+        [
+            Some(least(n, || rising(chunks().collect()))),
+            Some(least(n, || chunks().collect::<BTreeSet<_>>())),
+            Some(least(n, || chunks().collect::<HashSet<_>>())),
+        ],
+    );
+    row(
+        "union",
+        compare!(n, || loes::union(&pa, &pb, &mut room), || plain_rust::union(&pa, &pb, &mut out)),
+        [
+            Some(least(n, || join(&a, &b, |_, _| true))),
+            Some(least(n, || ta.union(&tb).copied().collect::<BTreeSet<_>>())),
+            Some(least(n, || ha.union(&hb).copied().collect::<HashSet<_>>())),
+        ],
+    );
+    row(
+        "difference",
+        compare!(n, || loes::difference(&pa, &pb, &mut room), || plain_rust::difference(&pa, &pb, &mut out)),
+        [
+            Some(least(n, || join(&a, &b, |in_a, in_b| in_a && !in_b))),
+            Some(least(n, || ta.difference(&tb).copied().collect::<BTreeSet<_>>())),
+            Some(least(n, || ha.difference(&hb).copied().collect::<HashSet<_>>())),
+        ],
+    );
+    row("open", compare!(1, || loes::Encoding::open(black_box(&bytes)), || plain_rust::open(black_box(&bytes))), [None; 3]);
+    let q = asked.len();
+    row(
+        "contains",
+        compare!(q, || each(&asked, |key| encoding.contains(key)), || each(&asked, |key| plain_rust::contains(
+            &bytes, &opened, key
+        ))),
+        [
+            Some(least(q, || each(&asked, |key| keys.binary_search(key).is_ok()))),
+            Some(least(q, || each(&asked, |key| tree.contains(key)))),
+            Some(least(q, || each(&asked, |key| hash.contains(key)))),
+        ],
+    );
+    row(
+        "index_of",
+        compare!(q, || each(&asked, |key| encoding.index_of(key)), || each(&asked, |key| plain_rust::index_of(
+            &bytes, &opened, key
+        ))),
+        [Some(least(q, || each(&asked, |key| keys.binary_search(key).ok()))), None, None],
+    );
+    row(
+        "lower_bound",
+        compare!(q, || each(&asked, |key| encoding.lower_bound(key)), || each(&asked, |key| {
+            plain_rust::lower_bound(&bytes, &opened, key)
+        })),
+        [
+            Some(least(q, || each(&asked, |key| keys.partition_point(|other| other < key)))),
+            Some(least(q, || each(&asked, |key| tree.range(*key..).next().is_some()))),
+            None,
+        ],
+    );
+    row(
+        "key_at",
+        compare!(q, || each(&indices, |index| encoding.key_at(loes::MemberIndex(*index), &mut buffer)), || each(
+            &indices,
+            |index| { plain_rust::key_at(&bytes, &opened, *index, &mut key) }
+        )),
+        [Some(least(q, || each(&indices, |index| keys[*index as usize]))), None, None],
+    );
+    row(
+        "rank",
+        compare!(q, || each(&offsets, |offset| encoding.rank(loes::EdgeOffset(*offset))), || each(&offsets, |offset| {
+            plain_rust::rank(&bytes, &opened, *offset)
+        })),
+        [None; 3],
+    );
+    let walked = compare!(
+        n,
+        || {
+            let mut cursor = loes::Cursor::new();
+            while encoding.advance(&mut cursor, &mut buffer).unwrap() > 0 {
+                black_box(&buffer);
+            }
+        },
+        || {
+            let mut cursor = plain_rust::Cursor::before();
+            while plain_rust::advance(&bytes, &opened, &mut cursor, &mut key).unwrap() > 0 {
+                black_box(&key);
+            }
+        }
+    );
+    fn all<'a, const T: usize>(keys: impl Iterator<Item = &'a [u8; T]>) {
+        for key in keys {
+            black_box(key);
+        }
+    }
+    row(
+        "iteration",
+        walked,
+        [Some(least(n, || all(keys.iter()))), Some(least(n, || all(tree.iter()))), Some(least(n, || all(hash.iter())))],
+    );
+    Table { shape, width, count: n, bits: opened.bits, rows }
+}
+
+// ---- Printing
+
+fn cell(value: Option<f64>) -> String {
+    match value {
+        None => "–".to_string(),
+        Some(value) if value < 1_000.0 => format!("{value:.1}"),
+        Some(value) => {
+            let digits = format!("{value:.0}");
+            let (front, back) = digits.split_at(digits.len() - 3);
+            match front.len() {
+                4.. => format!("{},{},{back}", &front[..front.len() - 3], &front[front.len() - 3..]),
+                _ => format!("{front},{back}"),
+            }
+        }
+    }
+}
+
+fn ratio(row: &Row) -> Option<f64> {
+    Some(row.library? / row.plain?)
+}
+
+fn line(cells: impl IntoIterator<Item = String>) {
+    println!("| {} |", cells.into_iter().collect::<Vec<_>>().join(" | "));
+}
+
+fn rule(columns: usize) {
+    println!("|---{}|", "|--:".repeat(columns));
+}
+
+impl Table {
+    fn print(&self) {
+        println!("\n## Width {}, {} {} keys, {} edge bits\n", self.width, self.count, self.shape, self.bits);
+        line(std::iter::once(String::new()).chain(COLUMNS.map(String::from)));
+        rule(COLUMNS.len());
+        for row in &self.rows {
+            let [array, tree, hash] = row.others;
+            let ratio = ratio(row).map_or("–".to_string(), |ratio| format!("{ratio:.2}"));
+            line([row.name.to_string(), cell(row.library), cell(row.plain), ratio, cell(array), cell(tree), cell(hash)]);
+        }
+    }
+}
+
+/// One line for each table: the library, and its ratio to plain Rust.
+fn growth(tables: &[Table]) {
+    let names = tables[0].rows.iter().map(|row| row.name.to_string());
+    line(["width", "keys", "edge bits"].map(String::from).into_iter().chain(names));
+    rule(tables[0].rows.len() + 2);
+    for table in tables {
+        let cells = table.rows.iter().map(|row| match ratio(row) {
+            Some(ratio) if row.name != "memory" => format!("{} ({ratio:.2})", cell(row.library)),
+            _ => cell(row.library.or(row.plain)),
+        });
+        let sizes = [table.width, table.count, table.bits].map(|number| number.to_string());
+        line(sizes.into_iter().chain(cells));
+    }
+}

@@ -1,0 +1,620 @@
+//! The library's algorithms in plain Rust, to measure against. Refusals are document 01's numbers.
+#![allow(dead_code)]
+
+pub const MAX_WIDTH: usize = 256;
+pub const MAX_EDGES: usize = 524_280;
+pub const BLOCK_BITS: usize = 65_536;
+pub const SUB_BLOCK_BITS: usize = 512;
+
+/// For each byte its set bits, and 1,024 more if one of its four records is empty.
+static TALLIES: [u16; 256] = tallies();
+
+const fn tallies() -> [u16; 256] {
+    let mut table = [0; 256];
+    let mut x = 0;
+    while x < 256 {
+        let empty = x & 0xC0 == 0 || x & 0x30 == 0 || x & 0x0C == 0 || x & 0x03 == 0;
+        table[x] = (x as u8).count_ones() as u16 + if empty { 1_024 } else { 0 };
+        x += 1;
+    }
+    table
+}
+
+/// For each byte and k, the place of its set bit number k, or 8.
+static PLACES: [u8; 2_048] = places();
+
+const fn places() -> [u8; 2_048] {
+    let mut table = [8; 2_048];
+    let mut x = 0;
+    while x < 256 {
+        let (mut place, mut k) = (0, 0);
+        while place < 8 {
+            if x & (0x80 >> place) != 0 {
+                table[8 * x + k] = place;
+                k += 1;
+            }
+            place += 1;
+        }
+        x += 1;
+    }
+    table
+}
+
+fn number2(l: &[u8], at: usize) -> usize {
+    usize::from(u16::from_be_bytes(l[at..at + 2].try_into().unwrap()))
+}
+
+fn number4(l: &[u8], at: usize) -> usize {
+    u32::from_be_bytes(l[at..at + 4].try_into().unwrap()) as usize
+}
+
+fn number8(l: &[u8], at: usize) -> usize {
+    u64::from_be_bytes(l[at..at + 8].try_into().unwrap()) as usize
+}
+
+fn bit_at(l: &[u8], o: usize) -> bool {
+    l[o / 8] >> (7 - o % 8) & 1 == 1
+}
+
+pub fn key_len(width: usize) -> usize {
+    width.div_ceil(8)
+}
+
+// ---- Opening
+
+#[derive(Clone, Copy, Debug, PartialEq, Eq)]
+pub struct Opened {
+    pub width: usize,
+    pub count: usize,
+    pub bits: usize,
+    pub edges: usize,
+    pub blocks: usize,
+    pub sub_blocks: usize,
+}
+
+/// Where the body of a field begins.
+fn field(l: &[u8], at: usize, tag: u8, length: usize) -> Result<usize, u64> {
+    if l.len() - at < 3 {
+        return Err(1);
+    }
+    if l[at] != tag {
+        return Err(2);
+    }
+    if number2(l, at + 1) != length {
+        return Err(3);
+    }
+    if l.len() - at - 3 < length {
+        return Err(1);
+    }
+    Ok(at + 3)
+}
+
+pub fn open(l: &[u8]) -> Result<Opened, u64> {
+    let width = number2(l, field(l, 0, 1, 2)?);
+    if width == 0 || width > MAX_WIDTH {
+        return Err(4);
+    }
+    let count = number4(l, field(l, 5, 2, 4)?);
+    let levels = field(l, 12, 3, 4 * width)?;
+    let bits = number4(l, levels + 4 * width - 4);
+    if bits > MAX_EDGES {
+        return Err(5);
+    }
+    let edges = field(l, levels + 4 * width, 4, bits.div_ceil(8))?;
+    let blocks = field(l, edges + bits.div_ceil(8), 5, 8 * bits.div_ceil(BLOCK_BITS))?;
+    let sub_blocks = field(l, blocks + 8 * bits.div_ceil(BLOCK_BITS), 6, 2 * bits.div_ceil(SUB_BLOCK_BITS))?;
+    if sub_blocks + 2 * bits.div_ceil(SUB_BLOCK_BITS) != l.len() {
+        return Err(6);
+    }
+    let e = Opened { width, count, bits, edges, blocks, sub_blocks };
+    if check(l, &e, levels) {
+        Ok(e)
+    } else {
+        Err(7)
+    }
+}
+
+fn tally(bytes: &[u8]) -> usize {
+    bytes.iter().map(|x| usize::from(TALLIES[usize::from(*x)])).sum()
+}
+
+fn check(l: &[u8], e: &Opened, levels: usize) -> bool {
+    // one pass over the whole edge bytes: the index fields, and no empty record
+    let bytes = &l[e.edges..e.edges + e.bits.div_ceil(8)];
+    let mut ones = 0;
+    for (j, part) in bytes[..e.bits.div_ceil(8)].chunks(64).enumerate() {
+        let block = number8(l, e.blocks + 8 * (j / 128));
+        if j % 128 == 0 && block != ones {
+            return false;
+        }
+        if block + number2(l, e.sub_blocks + 2 * j) != ones {
+            return false;
+        }
+        let whole = (e.bits / 8 - 64 * j).min(part.len());
+        let n = tally(&part[..whole]);
+        if n >= 1_024 {
+            return false;
+        }
+        ones += n;
+    }
+    // the last byte, if it is not whole
+    let left = e.bits % 8;
+    if left % 2 == 1 {
+        return false;
+    }
+    if left > 0 {
+        let x = bytes[e.bits / 8];
+        if x & (0xFF >> left) != 0 || (0..left / 2).any(|record| x & (0xC0 >> (2 * record)) == 0) {
+            return false;
+        }
+        ones += x.count_ones() as usize;
+    }
+    // level by level: each set bit is a record of the next level
+    let roots = usize::from(e.bits > 0);
+    let mut before = 0;
+    for d in 0..e.width {
+        let end = 2 * (roots + before);
+        if number4(l, levels + 4 * d) != end {
+            return false;
+        }
+        before = ones_before(l, e, end.min(e.bits));
+    }
+    e.count + e.bits / 2 == roots + ones
+}
+
+// ---- Rank and the descent
+
+/// The set bits before offset o, 0 to b.
+#[inline]
+pub fn ones_before(l: &[u8], e: &Opened, o: usize) -> usize {
+    if o == 0 {
+        return 0;
+    }
+    let o = o - 1;
+    let base = number8(l, e.blocks + 8 * (o / BLOCK_BITS)) + number2(l, e.sub_blocks + 2 * (o / SUB_BLOCK_BITS));
+    let whole = tally(&l[e.edges + 64 * (o / SUB_BLOCK_BITS)..e.edges + o / 8]) % 1_024;
+    let last = l[e.edges + o / 8] >> (7 - o % 8);
+    base + whole + usize::from(TALLIES[usize::from(last)] % 1_024)
+}
+
+pub fn rank(l: &[u8], e: &Opened, offset: u64) -> Result<u64, u64> {
+    if offset >= e.bits as u64 {
+        return Err(9);
+    }
+    Ok(ones_before(l, e, offset as usize + 1) as u64)
+}
+
+fn key_fits(e: &Opened, key: &[u8]) -> Result<(), u64> {
+    let t = key_len(e.width);
+    if key.len() != t || u32::from(key[t - 1]) % (1 << (8 * t - e.width)) != 0 {
+        return Err(8);
+    }
+    Ok(())
+}
+
+/// How many members are smaller than the key, and whether it is one: one rank a level.
+fn locate(l: &[u8], e: &Opened, key: &[u8]) -> (usize, bool) {
+    if e.bits == 0 {
+        return (0, false);
+    }
+    let edges = &l[e.edges..];
+    let (mut record, mut found) = (0, true);
+    for d in 0..e.width {
+        let edge = 2 * record + usize::from(found && bit_at(key, d));
+        found = found && bit_at(edges, edge);
+        record = 1 + ones_before(l, e, edge);
+    }
+    (record - e.bits / 2, found)
+}
+
+pub fn contains(l: &[u8], e: &Opened, key: &[u8]) -> Result<bool, u64> {
+    key_fits(e, key)?;
+    Ok(locate(l, e, key).1)
+}
+
+pub fn index_of(l: &[u8], e: &Opened, key: &[u8]) -> Result<Option<u64>, u64> {
+    key_fits(e, key)?;
+    let (smaller, found) = locate(l, e, key);
+    Ok(found.then_some(smaller as u64))
+}
+
+pub fn lower_bound(l: &[u8], e: &Opened, key: &[u8]) -> Result<Option<u64>, u64> {
+    key_fits(e, key)?;
+    let (smaller, _) = locate(l, e, key);
+    Ok((smaller < e.count).then_some(smaller as u64))
+}
+
+// ---- Select and key_at
+
+/// The offset of set bit number k: by block, sub-block, byte and table.
+fn select(l: &[u8], e: &Opened, k: usize) -> usize {
+    let mut block = e.bits.div_ceil(BLOCK_BITS) - 1;
+    while number8(l, e.blocks + 8 * block) > k {
+        block -= 1;
+    }
+    let mut left = k - number8(l, e.blocks + 8 * block);
+    // the last sub-block of the block with no more set bits before it
+    let (mut from, mut to) = (128 * block, e.bits.div_ceil(SUB_BLOCK_BITS).min(128 * block + 128));
+    while to - from > 1 {
+        let middle = (from + to) / 2;
+        if number2(l, e.sub_blocks + 2 * middle) <= left {
+            from = middle;
+        } else {
+            to = middle;
+        }
+    }
+    left -= number2(l, e.sub_blocks + 2 * from);
+    let mut at = e.edges + 64 * from;
+    loop {
+        let n = usize::from(TALLIES[usize::from(l[at])] % 1_024);
+        if left < n {
+            return 8 * (at - e.edges) + usize::from(PLACES[8 * usize::from(l[at]) + left]);
+        }
+        left -= n;
+        at += 1;
+    }
+}
+
+fn write_key(offsets: &[u64], out: &mut [u8]) -> usize {
+    let t = key_len(offsets.len());
+    for (byte, bits) in out.iter_mut().zip(offsets.chunks(8)) {
+        let value = bits.iter().fold(0, |value, offset| 2 * value + (offset % 2) as u8);
+        *byte = if bits.len() < 8 { value << (8 - bits.len()) } else { value };
+    }
+    t
+}
+
+pub fn key_at(l: &[u8], e: &Opened, index: u64, out: &mut [u8]) -> Result<usize, u64> {
+    if index >= e.count as u64 {
+        return Err(9);
+    }
+    if out.len() < key_len(e.width) {
+        return Err(14);
+    }
+    let mut offsets = [0; MAX_WIDTH];
+    let mut record = e.bits / 2 + index as usize;
+    for d in (0..e.width).rev() {
+        let o = select(l, e, record - 1);
+        offsets[d] = o as u64;
+        record = o / 2;
+    }
+    Ok(write_key(&offsets[..e.width], out))
+}
+
+// ---- The cursor
+
+#[derive(Clone, Debug, PartialEq, Eq)]
+pub struct Cursor {
+    pub state: u64,
+    pub offsets: [u64; MAX_WIDTH],
+}
+
+impl Cursor {
+    pub fn before() -> Cursor {
+        Cursor { state: 0, offsets: [0; MAX_WIDTH] }
+    }
+}
+
+fn is_path(l: &[u8], e: &Opened, offsets: &[u64]) -> bool {
+    let edges = &l[e.edges..];
+    let mut record = 0;
+    for o in offsets {
+        if o / 2 != record as u64 || *o >= e.bits as u64 || !bit_at(edges, *o as usize) {
+            return false;
+        }
+        record = ones_before(l, e, *o as usize) + 1;
+    }
+    true
+}
+
+fn first_edge(edges: &[u8], record: usize) -> usize {
+    2 * record + usize::from(!bit_at(edges, 2 * record))
+}
+
+pub fn advance(l: &[u8], e: &Opened, cursor: &mut Cursor, out: &mut [u8]) -> Result<usize, u64> {
+    let edges = &l[e.edges..];
+    let m = e.width;
+    let right = match cursor.state {
+        1 => is_path(l, e, &cursor.offsets[..m]) && cursor.offsets[m..].iter().all(|o| *o == 0),
+        0 | 2 => cursor.offsets.iter().all(|o| *o == 0),
+        _ => false,
+    };
+    if !right {
+        return Err(15);
+    }
+    // the lowest level that turns, where the path is at a member
+    let turn = match cursor.state {
+        0 if e.bits > 0 => Some(0),
+        1 => (0..m).rev().find(|d| cursor.offsets[*d] % 2 == 0 && bit_at(edges, cursor.offsets[*d] as usize + 1)),
+        _ => None,
+    };
+    let Some(turn) = turn else {
+        *cursor = Cursor { state: 2, offsets: [0; MAX_WIDTH] };
+        return Ok(0);
+    };
+    if out.len() < key_len(m) {
+        return Err(14);
+    }
+    if cursor.state == 0 {
+        let mut record = 0;
+        for d in 0..m {
+            let o = first_edge(edges, record);
+            cursor.offsets[d] = o as u64;
+            record = ones_before(l, e, o) + 1;
+        }
+    } else {
+        cursor.offsets[turn] += 1;
+        for d in turn + 1..m {
+            cursor.offsets[d] = first_edge(edges, cursor.offsets[d] as usize / 2 + 1) as u64;
+        }
+    }
+    cursor.state = 1;
+    Ok(write_key(&cursor.offsets[..m], out))
+}
+
+// ---- The writer of the six fields
+
+fn put(out: &mut [u8], at: &mut usize, bytes: &[u8]) {
+    out[*at..*at + bytes.len()].copy_from_slice(bytes);
+    *at += bytes.len();
+}
+
+fn head(out: &mut [u8], at: &mut usize, tag: u8, length: usize) {
+    put(out, at, &[tag, (length >> 8) as u8, length as u8]);
+}
+
+/// 5, 14, then the fields.
+fn write(width: usize, count: usize, ends: &[usize], edges: &[u8], out: &mut [u8]) -> Result<usize, u64> {
+    let bits = ends[width - 1];
+    if bits > MAX_EDGES {
+        return Err(5);
+    }
+    let (bytes, blocks, sub_blocks) = (bits.div_ceil(8), bits.div_ceil(BLOCK_BITS), bits.div_ceil(SUB_BLOCK_BITS));
+    let length = 24 + 4 * width + bytes + 8 * blocks + 2 * sub_blocks;
+    if out.len() < length {
+        return Err(14);
+    }
+    let mut at = 0;
+    head(out, &mut at, 1, 2);
+    put(out, &mut at, &(width as u16).to_be_bytes());
+    head(out, &mut at, 2, 4);
+    put(out, &mut at, &(count as u32).to_be_bytes());
+    head(out, &mut at, 3, 4 * width);
+    for end in &ends[..width] {
+        put(out, &mut at, &(*end as u32).to_be_bytes());
+    }
+    head(out, &mut at, 4, bytes);
+    put(out, &mut at, &edges[..bytes]);
+    let mut ones = [0u64; 9];
+    let mut subs = [0u16; 1_024];
+    let (mut total, mut inside) = (0, 0);
+    for (j, part) in edges[..bytes].chunks(64).enumerate() {
+        if j % 128 == 0 {
+            ones[j / 128] = total;
+            inside = 0;
+        }
+        subs[j] = inside as u16;
+        let n = tally(part) % 1_024;
+        inside += n;
+        total += n as u64;
+    }
+    head(out, &mut at, 5, 8 * blocks);
+    for entry in &ones[..blocks] {
+        put(out, &mut at, &entry.to_be_bytes());
+    }
+    head(out, &mut at, 6, 2 * sub_blocks);
+    for entry in &subs[..sub_blocks] {
+        put(out, &mut at, &entry.to_be_bytes());
+    }
+    Ok(length)
+}
+
+// ---- Pack
+
+fn common_prefix(x: &[u8], y: &[u8], width: usize) -> usize {
+    match x.iter().zip(y).position(|(a, b)| a != b) {
+        Some(j) => 8 * j + (x[j] ^ y[j]).leading_zeros() as usize,
+        None => width,
+    }
+}
+
+/// The first length of which the key has a prefix that none before it has.
+fn first_new(batch: &[u8], i: usize, t: usize, width: usize) -> usize {
+    if i == 0 {
+        return 0;
+    }
+    common_prefix(&batch[(i - 1) * t..i * t], &batch[i * t..(i + 1) * t], width) + 1
+}
+
+pub fn pack(width: u64, batch: &[u8], out: &mut [u8]) -> Result<usize, u64> {
+    if width == 0 || width > MAX_WIDTH as u64 {
+        return Err(4);
+    }
+    let m = width as usize;
+    let t = key_len(m);
+    if batch.len() % t != 0 {
+        return Err(10);
+    }
+    let n = batch.len() / t;
+    for i in 0..n {
+        let key = &batch[i * t..(i + 1) * t];
+        if u32::from(key[t - 1]) % (1 << (8 * t - m)) != 0 {
+            return Err(11);
+        }
+        if i > 0 && key < &batch[(i - 1) * t..i * t] {
+            return Err(12);
+        }
+    }
+    // counting pass: records of each level, and the members behind them
+    let mut counts = [0usize; MAX_WIDTH + 1];
+    for i in 0..n {
+        let new = first_new(batch, i, t, m);
+        if new <= m {
+            for count in &mut counts[new..=m] {
+                *count += 1;
+            }
+        }
+    }
+    let mut ends = [0; MAX_WIDTH];
+    let mut starts = [0; MAX_WIDTH];
+    let mut bits = 0;
+    for d in 0..m {
+        starts[d] = bits;
+        bits += 2 * counts[d];
+        ends[d] = bits;
+        if bits > MAX_EDGES {
+            return Err(5);
+        }
+    }
+    // marking pass: a cursor for each level
+    let mut edges = [0u8; MAX_EDGES / 8];
+    let mut seen = [0usize; MAX_WIDTH + 1];
+    for i in 0..n {
+        let key = &batch[i * t..(i + 1) * t];
+        let new = first_new(batch, i, t, m);
+        if new > m {
+            continue;
+        }
+        for count in &mut seen[new..=m] {
+            *count += 1;
+        }
+        for d in new.saturating_sub(1)..m {
+            let o = starts[d] + 2 * (seen[d] - 1) + usize::from(bit_at(key, d));
+            edges[o / 8] |= 0x80 >> (o % 8);
+        }
+    }
+    write(m, counts[m], &ends, &edges, out)
+}
+
+// ---- Merge and restrict
+
+fn record(l: &[u8], i: usize) -> u8 {
+    l[i / 4] >> (6 - 2 * (i % 4)) & 3
+}
+
+fn put_record(l: &mut [u8], i: usize, x: u8) {
+    let shift = 6 - 2 * (i % 4);
+    l[i / 4] = l[i / 4] & !(3 << shift) | x << shift;
+}
+
+/// Two flags for each record of the union and behind them for each member: in the first, in the second.
+struct Merged {
+    queue: Vec<u8>,
+    edges: Vec<u8>,
+    records: usize,
+    members: usize,
+    ends: [usize; MAX_WIDTH],
+}
+
+fn push(queue: &mut [u8], tail: usize, flags: u8) -> usize {
+    put_record(queue, tail, flags);
+    tail + usize::from(flags > 0)
+}
+
+/// Breadth first: both operands are read strictly in sequence.
+fn merge(width: usize, a: &[u8], ra: usize, b: &[u8], rb: usize) -> Merged {
+    let mut queue = vec![0u8; (3 * (ra + rb) + 8) / 4];
+    let mut edges = vec![0u8; (ra + rb + 4) / 4];
+    let mut ends = [0; MAX_WIDTH];
+    let (mut ia, mut ib) = (0, 0);
+    let mut tail = push(&mut queue, 0, u8::from(ra > 0) + 2 * u8::from(rb > 0));
+    let mut i = 0;
+    for end in &mut ends[..width] {
+        let level = tail;
+        while i < level {
+            let flags = record(&queue, i);
+            let (mut x, mut y) = (0, 0);
+            if flags & 1 != 0 {
+                x = record(a, ia);
+                ia += 1;
+            }
+            if flags & 2 != 0 {
+                y = record(b, ib);
+                ib += 1;
+            }
+            put_record(&mut edges, i, x | y);
+            tail = push(&mut queue, tail, x >> 1 | y >> 1 << 1);
+            tail = push(&mut queue, tail, x & 1 | (y & 1) << 1);
+            i += 1;
+        }
+        *end = 2 * level;
+    }
+    Merged { queue, edges, records: i, members: tail - i, ends }
+}
+
+/// The edges under which a member's flags are w: backwards, then without the empty records. Tells how many records are left.
+fn restrict(merged: &Merged, w: u8, out: &mut [u8]) -> usize {
+    let r = merged.records;
+    let mut child = r + merged.members;
+    for i in (0..r).rev() {
+        let x = record(&merged.edges, i);
+        let mut kept = 0;
+        for side in [1, 2] {
+            if x & side != 0 {
+                child -= 1;
+                let keep = if child < r { record(out, child) > 0 } else { record(&merged.queue, child) == w };
+                kept |= if keep { side } else { 0 };
+            }
+        }
+        put_record(out, i, kept);
+    }
+    let mut k = 0;
+    for i in 0..r {
+        let x = record(out, i);
+        put_record(out, k, x);
+        k += usize::from(x > 0);
+    }
+    for i in k..k.next_multiple_of(4).min(4 * out.len()) {
+        put_record(out, i, 0);
+    }
+    k
+}
+
+fn ones_between(edges: &[u8], from: usize, to: usize) -> usize {
+    if from == to {
+        return 0;
+    }
+    let first = usize::from(edges[from / 8] & (0xFF >> (from % 8)));
+    let last = if to % 8 == 0 { 0xFF } else { !(0xFFu8 >> (to % 8)) };
+    let (i, j) = (from / 8, (to - 1) / 8);
+    let count = |x: usize| usize::from(TALLIES[x] % 1_024);
+    if i == j {
+        return count(first & usize::from(last));
+    }
+    let middle: usize = edges[i + 1..j].iter().map(|x| count(usize::from(*x))).sum();
+    count(first) + middle + count(usize::from(edges[j] & last))
+}
+
+/// Count and level ends from the edges alone.
+fn finish(width: usize, edges: &[u8], records: usize, out: &mut [u8]) -> Result<usize, u64> {
+    let roots = usize::from(records > 0);
+    let mut ends = [0; MAX_WIDTH];
+    let (mut ones, mut from) = (0, 0);
+    for end in &mut ends[..width] {
+        *end = 2 * (roots + ones);
+        ones += ones_between(edges, from, *end);
+        from = *end;
+    }
+    write(width, roots + ones - records, &ends, edges, out)
+}
+
+/// The union of two encodings of one width.
+fn merged(a: &[u8], b: &[u8]) -> Result<(usize, Merged), u64> {
+    let (e, f) = (open(a)?, open(b)?);
+    if e.width != f.width {
+        return Err(13);
+    }
+    Ok((e.width, merge(e.width, &a[e.edges..], e.bits / 2, &b[f.edges..], f.bits / 2)))
+}
+
+pub fn union(a: &[u8], b: &[u8], out: &mut [u8]) -> Result<usize, u64> {
+    let (width, merged) = merged(a, b)?;
+    write(width, merged.members, &merged.ends, &merged.edges, out)
+}
+
+pub fn difference(a: &[u8], b: &[u8], out: &mut [u8]) -> Result<usize, u64> {
+    let (width, merged) = merged(a, b)?;
+    let mut edges = vec![0; merged.edges.len()];
+    let records = restrict(&merged, 1, &mut edges);
+    finish(width, &edges, records, out)
+}

@@ -1,0 +1,108 @@
+use crate::{answers, ffi, Encoding, Refusal};
+
+/// Where a [`Cursor`] stands.
+///
+/// ```
+/// use loes::{Cursor, State};
+///
+/// assert_eq!(Cursor::new().state(), State::Before);
+/// ```
+#[derive(Clone, Copy, Debug, PartialEq, Eq, Hash)]
+pub enum State {
+    /// Before the first member.
+    Before = 0,
+    /// At a member.
+    At = 1,
+    /// After the last member.
+    After = 2,
+}
+
+/// A place in a walk over an encoding's members: before, at a member with one edge offset for each level, or after.
+///
+/// ```
+/// use loes::{Cursor, Encoding, State};
+///
+/// let bytes = loes::pack_to_vec(3, &[0x00, 0x60])?;
+/// let encoding = Encoding::open(&bytes)?;
+/// let (mut cursor, mut key) = (Cursor::new(), [0]);
+/// assert_eq!(encoding.advance(&mut cursor, &mut key)?, 1);
+/// assert_eq!((cursor.state(), key), (State::At, [0x00]));
+/// assert_eq!(encoding.advance(&mut cursor, &mut key)?, 1);
+/// assert_eq!(key, [0x60]);
+/// assert_eq!(encoding.advance(&mut cursor, &mut key)?, 0);
+/// assert_eq!(cursor.state(), State::After);
+/// # Ok::<(), loes::Refusal>(())
+/// ```
+#[derive(Clone, Debug, PartialEq, Eq)]
+pub struct Cursor {
+    pub(crate) state: State,
+    pub(crate) offsets: [u64; Encoding::MAX_WIDTH as usize],
+}
+
+impl Cursor {
+    /// A cursor before the first member.
+    ///
+    /// ```
+    /// # use loes::{Cursor, State};
+    /// let cursor = Cursor::new();
+    /// assert_eq!(cursor, Cursor::from_parts(State::Before, [0; 256]));
+    /// ```
+    pub const fn new() -> Cursor {
+        Cursor { state: State::Before, offsets: [0; Encoding::MAX_WIDTH as usize] }
+    }
+
+    /// A cursor of a state and offsets, as [`state`](Cursor::state) and [`offsets`](Cursor::offsets) tell them. Anything may be
+    /// given: a cursor that is not one of the encoding it is used with is refused there.
+    ///
+    /// ```
+    /// # use loes::{Cursor, Encoding, Refusal, State};
+    /// let bytes = loes::pack_to_vec(3, &[0x00, 0x60])?;
+    /// let mut cursor = Cursor::from_parts(State::At, [1; 256]);
+    /// assert_eq!(Encoding::open(&bytes)?.advance(&mut cursor, &mut [0]), Err(Refusal::BadCursor));
+    /// # Ok::<(), loes::Refusal>(())
+    /// ```
+    pub const fn from_parts(state: State, offsets: [u64; 256]) -> Cursor {
+        Cursor { state, offsets }
+    }
+
+    /// Where it stands.
+    ///
+    /// ```
+    /// # use loes::{Cursor, State};
+    /// assert_eq!(Cursor::new().state(), State::Before);
+    /// ```
+    pub const fn state(&self) -> State {
+        self.state
+    }
+
+    /// Its edge offsets, one for each level; those that it doesn't use are 0.
+    ///
+    /// ```
+    /// # use loes::{Cursor, Encoding};
+    /// let bytes = loes::pack_to_vec(3, &[0x60])?;
+    /// let mut cursor = Cursor::new();
+    /// Encoding::open(&bytes)?.advance(&mut cursor, &mut [0])?;
+    /// assert_eq!(cursor.offsets()[..4], [0, 3, 5, 0]);
+    /// # Ok::<(), loes::Refusal>(())
+    /// ```
+    pub const fn offsets(&self) -> &[u64; 256] {
+        &self.offsets
+    }
+
+    /// Takes the state that a step has left, and tells how many bytes it wrote.
+    pub(crate) fn stepped(&mut self, step: ffi::Step) -> Result<usize, Refusal> {
+        self.state = match step.state {
+            0 => State::Before,
+            1 => State::At,
+            2 => State::After,
+            other => panic!("the static library answered a cursor state {other}: it is not the one this crate was made for"),
+        };
+        answers::length(ffi::Answer { kind: step.kind, value: step.value })
+    }
+}
+
+impl Default for Cursor {
+    fn default() -> Cursor {
+        Cursor::new()
+    }
+}

@@ -1,0 +1,147 @@
+//! The C interface of the static library (`include/loes.h`), with slices in place of pointers.
+//!
+//! The only file with `unsafe`. What makes it sound:
+//!
+//! - a slice's pointer is never null and its length is right; output slices are borrowed mutably, so they share no byte with
+//!   anything else that is lent;
+//! - the calls behind the check require what `loes_open` answered for the same bytes: a `Checked` is made by `open` only
+//!   and borrows those bytes, so they cannot change while it lives.
+
+/// `kind`: 0 value, 1 absent or none, 2 refused.
+#[repr(C)]
+#[derive(Clone, Copy, Debug, PartialEq, Eq)]
+pub struct Answer {
+    pub kind: u64,
+    pub value: u64,
+}
+
+#[repr(C)]
+#[derive(Clone, Copy, Debug, PartialEq, Eq)]
+pub struct Opened {
+    pub kind: u64,
+    pub width: u64,
+    pub count: u64,
+    pub bits: u64,
+    pub edges: u64,
+    pub blocks: u64,
+    pub sub_blocks: u64,
+}
+
+#[repr(C)]
+#[derive(Clone, Copy, Debug, PartialEq, Eq)]
+pub struct Step {
+    pub kind: u64,
+    pub value: u64,
+    pub state: u64,
+}
+
+#[rustfmt::skip]
+extern "C" {
+    fn loes_open(l: *const u8, n: usize) -> Opened;
+    fn loes_pack(width: u64, batch: *const u8, n: usize, out: *mut u8, m: usize) -> Answer;
+    fn loes_union(a: *const u8, an: usize, b: *const u8, bn: usize, out: *mut u8, m: usize) -> Answer;
+    fn loes_difference(a: *const u8, an: usize, b: *const u8, bn: usize, out: *mut u8, m: usize) -> Answer;
+    fn loes_contains(l: *const u8, n: usize, key: *const u8, k: usize) -> Answer;
+    fn loes_index_of(l: *const u8, n: usize, key: *const u8, k: usize) -> Answer;
+    fn loes_lower_bound(l: *const u8, n: usize, key: *const u8, k: usize) -> Answer;
+    fn loes_key_at(l: *const u8, n: usize, index: u64, out: *mut u8, m: usize) -> Answer;
+    fn loes_rank(l: *const u8, n: usize, offset: u64) -> Answer;
+    fn loes_advance(l: *const u8, n: usize, state: u64, offsets: *mut u64, count: usize, out: *mut u8, m: usize) -> Step;
+    fn loes_opened_contains(e: Opened, l: *const u8, n: usize, key: *const u8, k: usize) -> Answer;
+    fn loes_opened_index_of(e: Opened, l: *const u8, n: usize, key: *const u8, k: usize) -> Answer;
+    fn loes_opened_lower_bound(e: Opened, l: *const u8, n: usize, key: *const u8, k: usize) -> Answer;
+    fn loes_opened_key_at(e: Opened, l: *const u8, n: usize, index: u64, out: *mut u8, m: usize) -> Answer;
+    fn loes_opened_rank(e: Opened, l: *const u8, n: usize, offset: u64) -> Answer;
+    fn loes_opened_advance(e: Opened, l: *const u8, n: usize, state: u64, offsets: *mut u64, count: usize, out: *mut u8, m: usize) -> Step;
+}
+
+/// Bytes that have been opened, with what was answered for them.
+#[derive(Clone, Copy)]
+pub struct Checked<'a> {
+    opened: Opened,
+    bytes: &'a [u8],
+}
+
+/// The checked bytes, or the refusal's number.
+pub fn open(bytes: &[u8]) -> Result<Checked<'_>, u64> {
+    let opened = unsafe { loes_open(bytes.as_ptr(), bytes.len()) };
+    match opened.kind {
+        0 => Ok(Checked { opened, bytes }),
+        _ => Err(opened.width),
+    }
+}
+
+pub fn pack(width: u64, batch: &[u8], out: &mut [u8]) -> Answer {
+    unsafe { loes_pack(width, batch.as_ptr(), batch.len(), out.as_mut_ptr(), out.len()) }
+}
+
+pub fn union(a: &[u8], b: &[u8], out: &mut [u8]) -> Answer {
+    unsafe { loes_union(a.as_ptr(), a.len(), b.as_ptr(), b.len(), out.as_mut_ptr(), out.len()) }
+}
+
+pub fn difference(a: &[u8], b: &[u8], out: &mut [u8]) -> Answer {
+    unsafe { loes_difference(a.as_ptr(), a.len(), b.as_ptr(), b.len(), out.as_mut_ptr(), out.len()) }
+}
+
+pub fn contains(l: &[u8], key: &[u8]) -> Answer {
+    unsafe { loes_contains(l.as_ptr(), l.len(), key.as_ptr(), key.len()) }
+}
+
+pub fn index_of(l: &[u8], key: &[u8]) -> Answer {
+    unsafe { loes_index_of(l.as_ptr(), l.len(), key.as_ptr(), key.len()) }
+}
+
+pub fn lower_bound(l: &[u8], key: &[u8]) -> Answer {
+    unsafe { loes_lower_bound(l.as_ptr(), l.len(), key.as_ptr(), key.len()) }
+}
+
+pub fn key_at(l: &[u8], index: u64, out: &mut [u8]) -> Answer {
+    unsafe { loes_key_at(l.as_ptr(), l.len(), index, out.as_mut_ptr(), out.len()) }
+}
+
+pub fn rank(l: &[u8], offset: u64) -> Answer {
+    unsafe { loes_rank(l.as_ptr(), l.len(), offset) }
+}
+
+pub fn advance(l: &[u8], state: u64, offsets: &mut [u64], out: &mut [u8]) -> Step {
+    unsafe { loes_advance(l.as_ptr(), l.len(), state, offsets.as_mut_ptr(), offsets.len(), out.as_mut_ptr(), out.len()) }
+}
+
+impl<'a> Checked<'a> {
+    pub fn bytes(&self) -> &'a [u8] {
+        self.bytes
+    }
+
+    pub fn opened(&self) -> Opened {
+        self.opened
+    }
+
+    pub fn contains(&self, key: &[u8]) -> Answer {
+        unsafe { loes_opened_contains(self.opened, self.bytes.as_ptr(), self.bytes.len(), key.as_ptr(), key.len()) }
+    }
+
+    pub fn index_of(&self, key: &[u8]) -> Answer {
+        unsafe { loes_opened_index_of(self.opened, self.bytes.as_ptr(), self.bytes.len(), key.as_ptr(), key.len()) }
+    }
+
+    pub fn lower_bound(&self, key: &[u8]) -> Answer {
+        unsafe { loes_opened_lower_bound(self.opened, self.bytes.as_ptr(), self.bytes.len(), key.as_ptr(), key.len()) }
+    }
+
+    pub fn key_at(&self, index: u64, out: &mut [u8]) -> Answer {
+        unsafe { loes_opened_key_at(self.opened, self.bytes.as_ptr(), self.bytes.len(), index, out.as_mut_ptr(), out.len()) }
+    }
+
+    pub fn rank(&self, offset: u64) -> Answer {
+        unsafe { loes_opened_rank(self.opened, self.bytes.as_ptr(), self.bytes.len(), offset) }
+    }
+
+    #[rustfmt::skip]
+    pub fn advance(&self, state: u64, offsets: &mut [u64], out: &mut [u8]) -> Step {
+        unsafe {
+            loes_opened_advance(
+                self.opened, self.bytes.as_ptr(), self.bytes.len(), state, offsets.as_mut_ptr(), offsets.len(), out.as_mut_ptr(), out.len(),
+            )
+        }
+    }
+}

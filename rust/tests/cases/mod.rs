@@ -1,0 +1,145 @@
+//! The differential tests, for anything that has the calls: answers, refusal numbers, cursors and every byte of every lent buffer
+//! are compared with the reference.
+#![allow(dead_code, unused_imports)]
+
+mod chance;
+mod checks;
+mod damage;
+mod examples;
+mod lent;
+mod runs;
+mod sets;
+
+pub use chance::*;
+pub use checks::*;
+pub use damage::*;
+pub use examples::*;
+pub use lent::*;
+pub use runs::*;
+pub use sets::*;
+
+use crate::plain::{Answer, Key, Laid};
+
+/// The five questions.
+#[derive(Clone, Debug)]
+pub enum Question {
+    Contains(Key),
+    IndexOf(Key),
+    LowerBound(Key),
+    KeyAt(u64),
+    Rank(u64),
+}
+
+/// The calls, answering in the numbers of the C interface.
+pub trait Subject {
+    type Opened<'a>;
+
+    fn pack(width: u64, batch: &[u8], out: &mut [u8]) -> Answer;
+    fn union(a: &[u8], b: &[u8], out: &mut [u8]) -> Answer;
+    fn difference(a: &[u8], b: &[u8], out: &mut [u8]) -> Answer;
+    /// With width, count and edge bits.
+    fn open(l: &[u8]) -> Result<(Self::Opened<'_>, [u64; 3]), u64>;
+    /// Checks the encoding first.
+    fn ask(l: &[u8], question: &Question, out: &mut [u8]) -> Answer;
+    /// Behind the check.
+    fn ask_opened(opened: &Self::Opened<'_>, question: &Question, out: &mut [u8]) -> Answer;
+    /// With the state after the step.
+    fn advance(l: &[u8], state: u64, offsets: &mut [u64], out: &mut [u8]) -> (Answer, u64);
+    fn advance_opened(opened: &Self::Opened<'_>, state: u64, offsets: &mut [u64], out: &mut [u8]) -> (Answer, u64);
+}
+
+pub fn expected(laid: &Laid, question: &Question, out: &mut [u8]) -> Answer {
+    match question {
+        Question::Contains(key) => laid.contains(key),
+        Question::IndexOf(key) => laid.index_of(key),
+        Question::LowerBound(key) => laid.lower_bound(key),
+        Question::KeyAt(index) => laid.key_at(*index, out),
+        Question::Rank(offset) => laid.rank(*offset),
+    }
+}
+
+/// Defines the tests of a subject.
+#[macro_export]
+macro_rules! differential_tests {
+    ($subject:ty) => {
+        use cases::*;
+
+        #[test]
+        fn examples() {
+            cases::check_examples::<$subject>();
+        }
+
+        #[test]
+        fn sets_of_many_shapes() {
+            cases::rounds("sets_of_many_shapes", 250, cases::shapes::<$subject>);
+        }
+
+        #[test]
+        fn every_width() {
+            cases::rounds("every_width", 1, cases::every_width::<$subject>);
+        }
+
+        #[test]
+        fn damaged_batches() {
+            cases::rounds("damaged_batches", 3_000, cases::batches::<$subject>);
+        }
+
+        #[test]
+        fn damaged_encodings() {
+            cases::rounds("damaged_encodings", 10_000, cases::encodings::<$subject>);
+        }
+
+        #[test]
+        fn nearly_encodings() {
+            cases::rounds("nearly_encodings", 6_000, |rng| {
+                let bytes = nearly(rng);
+                let _ = check_bytes::<$subject>(rng, &bytes, 2);
+            });
+        }
+
+        #[test]
+        fn small_encodings_damaged_everywhere() {
+            cases::rounds("small_encodings_damaged_everywhere", 15, cases::everywhere::<$subject>);
+        }
+
+        #[test]
+        fn any_bytes() {
+            cases::rounds("any_bytes", 2_000, cases::any_bytes::<$subject>);
+        }
+
+        #[test]
+        fn walks_and_damaged_cursors() {
+            cases::rounds("walks_and_damaged_cursors", 400, cases::walks::<$subject>);
+        }
+
+        #[test]
+        fn joins() {
+            cases::rounds("joins", 500, cases::joins::<$subject>);
+        }
+
+        #[test]
+        fn histories() {
+            cases::rounds("histories", 120, |rng| check_history::<$subject>(rng, 60));
+        }
+
+        #[test]
+        fn boundaries() {
+            cases::rounds("boundaries", 1, cases::boundaries::<$subject>);
+        }
+
+        #[test]
+        fn odd_numbers_of_edge_bits() {
+            cases::rounds("odd_numbers_of_edge_bits", 1, cases::odd_bits::<$subject>);
+        }
+
+        #[test]
+        fn at_the_limit() {
+            cases::rounds("at_the_limit", 1, cases::at_the_limit::<$subject>);
+        }
+
+        #[test]
+        fn large_encodings_damaged() {
+            cases::rounds("large_encodings_damaged", 20, cases::large_damaged::<$subject>);
+        }
+    };
+}

@@ -1,0 +1,219 @@
+//! The tests: what each round does.
+
+use super::*;
+use crate::plain::{self, key_len, Laid, Set};
+
+/// Pack, open, ask, walk.
+pub fn shapes<S: Subject>(rng: &mut Rng) {
+    let width = random_width(rng);
+    let most = if rng.one_in(10) { 1_500 } else { 120 };
+    let set = random_set(rng, width, most.min(80_000 / width));
+    check_set::<S>(rng, &set, 12, 20);
+}
+
+pub fn check_set<S: Subject>(rng: &mut Rng, set: &Set, times: usize, damage: usize) -> Laid {
+    let bytes = check_pack::<S>(rng, set.width as u64, &batch_of(set)).expect("a small set has an encoding");
+    let laid = check_bytes::<S>(rng, &bytes, times).expect("an encoding is read");
+    assert_eq!(laid.set, *set, "the reference reads what it wrote");
+    check_walk::<S>(rng, &laid, damage);
+    laid
+}
+
+pub fn every_width<S: Subject>(rng: &mut Rng) {
+    for width in 1..=256 {
+        let set = random_set(rng, width, 12);
+        check_set::<S>(rng, &set, 3, 3);
+    }
+    for width in 1..=11 {
+        let set = full_set(width);
+        check_set::<S>(rng, &set, 10, 10);
+    }
+}
+
+pub fn batches<S: Subject>(rng: &mut Rng) {
+    let width = random_width(rng);
+    let set = random_set(rng, width, 40);
+    let (width, batch) = damaged_batch(rng, &set);
+    check_pack::<S>(rng, width, &batch);
+}
+
+pub fn encodings<S: Subject>(rng: &mut Rng) {
+    let width = if rng.one_in(4) { random_width(rng) } else { rng.between(1, 24) };
+    let laid = random_set(rng, width, 40).lay();
+    let bytes = damaged(rng, &laid);
+    let _ = check_bytes::<S>(rng, &bytes, 2);
+}
+
+/// Cut at every place, every byte changed in many ways, bytes behind.
+pub fn everywhere<S: Subject>(rng: &mut Rng) {
+    let width = *rng.pick(&[1, 3, 8, 9, 17]);
+    let bytes = random_set(rng, width, 12).lay().encode();
+    for n in 0..bytes.len() {
+        assert_eq!(check_bytes::<S>(rng, &bytes[..n], 1).err(), Some(1), "cut at {n}");
+    }
+    for i in 0..bytes.len() {
+        let mut values: Vec<u8> = (0..8).map(|bit| bytes[i] ^ (1 << bit)).collect();
+        values.extend([0, 255, bytes[i].wrapping_add(1), bytes[i].wrapping_sub(1), rng.next() as u8]);
+        for value in values {
+            let mut other = bytes.clone();
+            other[i] = value;
+            let _ = check_bytes::<S>(rng, &other, 1);
+        }
+    }
+    for n in 1..5 {
+        let mut other = bytes.clone();
+        other.extend(rng.bytes(n));
+        assert_eq!(check_bytes::<S>(rng, &other, 1).err(), Some(6));
+    }
+}
+
+pub fn any_bytes<S: Subject>(rng: &mut Rng) {
+    let n = rng.below(60);
+    let mut bytes = rng.bytes(n);
+    // heads that are right, so far
+    for (at, value) in [(0, 1), (1, 0), (2, 2), (3, 0), (5, 2), (6, 0), (7, 4), (12, 3)] {
+        if at < bytes.len() && !rng.one_in(20) {
+            bytes[at] = value;
+        }
+    }
+    let _ = check_bytes::<S>(rng, &bytes, 1);
+}
+
+pub fn walks<S: Subject>(rng: &mut Rng) {
+    let width = random_width(rng);
+    let laid = random_set(rng, width, 40).lay();
+    check_walk::<S>(rng, &laid, 150);
+}
+
+pub fn joins<S: Subject>(rng: &mut Rng) {
+    let width = random_width(rng);
+    let most = if rng.one_in(10) { 40_000 / width + 1 } else { 60 };
+    let a = random_set(rng, width, most);
+    let mut b = random_set(rng, width, most);
+    // shared keys
+    match rng.below(5) {
+        0 => b = a.clone(),
+        1 => b.keys.extend(a.keys.iter().filter(|_| rng.one_in(2)).cloned()),
+        2 => b.keys = a.keys.iter().filter(|_| !rng.one_in(3)).cloned().collect(),
+        _ => (),
+    }
+    if rng.one_in(12) {
+        let other = random_width(rng);
+        b = random_set(rng, other, 20);
+    }
+    check_join::<S>(rng, &a.lay(), &b.lay());
+}
+
+/// Where a sub-block, a block or a byte is just filled.
+pub fn boundaries<S: Subject>(rng: &mut Rng) {
+    for bits in [510, 512, 514, 1_022, 1_024, 1_026, 4_096, 65_024, 65_534, 65_536, 65_538, 66_048, 131_072, 131_074] {
+        let widths: &[usize] = if bits < 5_000 { &[12, 17, 64, 255] } else { &[18, 33, 256] };
+        for width in widths {
+            let set = set_with_records(rng, *width, bits / 2);
+            let laid = set.clone().lay();
+            assert_eq!(laid.bits(), bits);
+            if bits < 5_000 {
+                check_set::<S>(rng, &set, 10, 20);
+                continue;
+            }
+            let bytes = check_pack::<S>(rng, *width as u64, &batch_of(&set)).unwrap();
+            check_read::<S>(rng, &bytes, &Ok(laid.clone()), 12);
+            check_keys::<S>(&laid);
+            let part = Set::new(*width, set.keys.iter().filter(|_| rng.one_in(2)).cloned());
+            check_join::<S>(rng, &laid, &part.lay());
+        }
+    }
+}
+
+/// No set has an odd number of edge bits: well-formed fields with one are refused, also where an index entry more is started.
+pub fn odd_bits<S: Subject>(rng: &mut Rng) {
+    for bits in [1, 3, 511, 513, 65_535, 65_537, 131_073, 524_279] {
+        let edges = vec![true; bits];
+        let (blocks, sub_blocks) = plain::index_bodies(&edges);
+        for ends in [[2, 6, bits], [bits, bits, bits], [0, 0, bits]] {
+            let count = rng.below(bits + 1);
+            let bytes = plain::fields(3, count, &ends, &plain::pack_bits(&edges), &blocks, &sub_blocks);
+            assert_eq!(check_bytes::<S>(rng, &bytes, 1).err(), Some(7), "{bits} edge bits");
+        }
+    }
+}
+
+/// The whole walk, keys only.
+pub fn check_keys<S: Subject>(laid: &Laid) {
+    let bytes = laid.encode();
+    let (opened, _) = S::open(&bytes).unwrap();
+    let (mut state, mut offsets, mut key) = (0, vec![0; 256], vec![0; key_len(laid.width())]);
+    for member in &laid.set.keys {
+        let (answer, next) = S::advance_opened(&opened, state, &mut offsets, &mut key);
+        assert_eq!((answer, next, &key), (Ok(Some(key.len() as u64)), 1, member));
+        state = next;
+    }
+    assert_eq!(S::advance_opened(&opened, state, &mut offsets, &mut []), (Ok(Some(0)), 2));
+    assert_eq!(offsets, vec![0; 256]);
+}
+
+/// Edge sequences of 524,280 bits, and of more.
+pub fn at_the_limit<S: Subject>(rng: &mut Rng) {
+    for width in [19, 256] {
+        let set = set_with_records(rng, width, 262_140);
+        let laid = set.clone().lay();
+        assert_eq!(laid.bits(), plain::MAX_EDGES);
+        let bytes = laid.encode();
+        let batch = batch_of(&set);
+        check_writes(rng, &|| format!("pack to the limit, width {width}"), &Ok(bytes.clone()), |out| {
+            S::pack(width as u64, &batch, out)
+        });
+        check_read::<S>(rng, &bytes, &Ok(laid.clone()), 20);
+        check_keys::<S>(&laid);
+        // one record more
+        let more = set_with_records(rng, width, 262_141);
+        assert_eq!(check_pack::<S>(rng, width as u64, &batch_of(&more)), None);
+        // the union passes the limit, the difference does not
+        let half = set_with_records(rng, width, 150_000).lay();
+        check_join::<S>(rng, &laid, &half);
+        let part = Set::new(width, set.keys.iter().filter(|_| rng.one_in(3)).cloned()).lay();
+        check_join::<S>(rng, &laid, &part);
+        check_join::<S>(rng, &laid, &laid);
+    }
+    // the widest full sets
+    let full = full_set(17);
+    check_pack::<S>(rng, 17, &batch_of(&full));
+    let bytes = full.clone().lay().encode();
+    check_read::<S>(rng, &bytes, &Ok(full.lay()), 10);
+    let too_many: Vec<u8> = (0..1 << 18).flat_map(|number| number_key(18, number)).collect();
+    assert_eq!(S::pack(18, &too_many, &mut []), Err(5));
+    // far more keys than an encoding can have, and one key many times
+    let keys: Vec<u8> = (0..700_000).flat_map(|number| number_key(40, 1_000 * number)).collect();
+    assert_eq!(S::pack(40, &keys, &mut []), Err(5));
+    let key = random_key(rng, 255);
+    let batch = key.repeat(30_000);
+    let one = Set::new(255, [key]).lay().encode();
+    check_writes(rng, &|| "pack of equal keys".to_string(), &Ok(one), |out| S::pack(255, &batch, out));
+}
+
+/// Damage beyond the first block.
+pub fn large_damaged<S: Subject>(rng: &mut Rng) {
+    let (width, records) = *rng.pick(&[(17, 70_000), (20, 40_000), (64, 36_000), (200, 33_000)]);
+    let laid = set_with_records(rng, width, records).lay();
+    for _ in 0..2 {
+        let mut bytes = damaged(rng, &laid);
+        if rng.one_in(3) {
+            // an entry of the index, in the last block
+            bytes = laid.encode();
+            let sub_blocks = laid.bits().div_ceil(plain::SUB_BLOCK);
+            let back = 2 * rng.between(1, sub_blocks - 128);
+            let at = bytes.len() - back;
+            nudge(rng, &mut bytes[at..at + 2]);
+        }
+        let _ = check_bytes::<S>(rng, &bytes, 2);
+    }
+    // sub-blocks counted from the start of the sequence
+    let (blocks, mut sub_blocks) = plain::index_bodies(&laid.edges);
+    let first = u16::from_be_bytes([blocks[14], blocks[15]]);
+    for entry in sub_blocks[256..].chunks_mut(2) {
+        let wrong = u16::from_be_bytes([entry[0], entry[1]]).wrapping_add(first);
+        entry.copy_from_slice(&wrong.to_be_bytes());
+    }
+    let bytes = plain::fields(width, laid.count(), &laid.ends, &plain::pack_bits(&laid.edges), &blocks, &sub_blocks);
+    assert_eq!(check_bytes::<S>(rng, &bytes, 1).err(), Some(7));
+}

@@ -1,0 +1,166 @@
+//! The library against the reference, and the Rust interface over it.
+
+#[macro_use]
+mod cases;
+mod plain;
+
+use loes::{ffi, Cursor, EdgeOffset, Encoding, MemberIndex, Refusal, State};
+use plain::{key_len, Answer, Set};
+
+struct Library;
+
+fn answer(answer: ffi::Answer) -> Answer {
+    match answer.kind {
+        0 => Ok(Some(answer.value)),
+        1 => Ok(None),
+        2 => Err(answer.value),
+        other => panic!("kind {other}"),
+    }
+}
+
+fn number<T>(result: Result<T, Refusal>) -> Result<T, u64> {
+    result.map_err(|refusal| u64::from(refusal.number()))
+}
+
+fn length(result: Result<usize, Refusal>) -> Answer {
+    number(result).map(|n| Some(n as u64))
+}
+
+fn index(result: Result<Option<MemberIndex>, Refusal>) -> Answer {
+    number(result).map(|index| index.map(|index| index.0))
+}
+
+fn stepped(step: ffi::Step) -> (Answer, u64) {
+    (answer(ffi::Answer { kind: step.kind, value: step.value }), step.state)
+}
+
+/// Encodings are built, opened and asked through the Rust interface; cursors in numbers, so that any can be given.
+impl Subject for Library {
+    type Opened<'a> = (ffi::Checked<'a>, Encoding<'a>);
+
+    fn pack(width: u64, batch: &[u8], out: &mut [u8]) -> Answer {
+        length(loes::pack(width, batch, out))
+    }
+
+    fn union(a: &[u8], b: &[u8], out: &mut [u8]) -> Answer {
+        length(loes::union(a, b, out))
+    }
+
+    fn difference(a: &[u8], b: &[u8], out: &mut [u8]) -> Answer {
+        length(loes::difference(a, b, out))
+    }
+
+    fn open(l: &[u8]) -> Result<(Self::Opened<'_>, [u64; 3]), u64> {
+        let encoding = number(Encoding::open(l))?;
+        Ok(((ffi::open(l)?, encoding), [encoding.width(), encoding.len(), encoding.bits()]))
+    }
+
+    fn ask(l: &[u8], question: &Question, out: &mut [u8]) -> Answer {
+        match question {
+            Question::Contains(key) => number(loes::contains(l, key)).map(|found| found.then_some(1)),
+            Question::IndexOf(key) => index(loes::index_of(l, key)),
+            Question::LowerBound(key) => index(loes::lower_bound(l, key)),
+            Question::KeyAt(index) => length(loes::key_at(l, MemberIndex(*index), out)),
+            Question::Rank(offset) => number(loes::rank(l, EdgeOffset(*offset))).map(Some),
+        }
+    }
+
+    fn ask_opened((_, encoding): &Self::Opened<'_>, question: &Question, out: &mut [u8]) -> Answer {
+        match question {
+            Question::Contains(key) => number(encoding.contains(key)).map(|found| found.then_some(1)),
+            Question::IndexOf(key) => index(encoding.index_of(key)),
+            Question::LowerBound(key) => index(encoding.lower_bound(key)),
+            Question::KeyAt(index) => length(encoding.key_at(MemberIndex(*index), out)),
+            Question::Rank(offset) => number(encoding.rank(EdgeOffset(*offset))).map(Some),
+        }
+    }
+
+    fn advance(l: &[u8], state: u64, offsets: &mut [u64], out: &mut [u8]) -> (Answer, u64) {
+        stepped(ffi::advance(l, state, offsets, out))
+    }
+
+    fn advance_opened((checked, _): &Self::Opened<'_>, state: u64, offsets: &mut [u64], out: &mut [u8]) -> (Answer, u64) {
+        stepped(checked.advance(state, offsets, out))
+    }
+}
+
+differential_tests!(Library);
+
+/// What is answered for a member is 1 on the C side, as its header says.
+#[test]
+fn answers_in_numbers() {
+    let value = |value| ffi::Answer { kind: 0, value };
+    let none = |answer: ffi::Answer| answer.kind == 1;
+    let refused = |number| ffi::Answer { kind: 2, value: number };
+    assert_eq!(ffi::contains(&P2, &[0x60]), value(1));
+    assert!(none(ffi::contains(&P2, &[0xA0])) && none(ffi::index_of(&P2, &[0xA0])) && none(ffi::lower_bound(&P2, &[0xE0])));
+    assert_eq!(ffi::lower_bound(&P2, &[0xA0]), value(2));
+    assert_eq!(ffi::contains(&P2, &[0x61]), refused(8));
+    let opened = ffi::open(&P2).unwrap().opened();
+    assert_eq!((opened.edges, opened.blocks, opened.sub_blocks), (30, 35, 46));
+    assert_eq!(ffi::open(&P2[..47]).err(), Some(1));
+}
+
+/// The iterator gives the keys, knows how many are left, and stays at its end.
+#[test]
+fn keys_in_order() {
+    rounds("keys_in_order", 100, |rng| {
+        let width = random_width(rng);
+        let set = random_set(rng, width, 100);
+        let bytes = loes::pack_to_vec(width as u64, &batch_of(&set)).unwrap();
+        let encoding = Encoding::open(&bytes).unwrap();
+        assert!(encoding.keys().eq(set.keys.iter().cloned()));
+        let mut keys = encoding.keys();
+        for left in (0..set.keys.len()).rev() {
+            assert!(keys.next().is_some());
+            assert_eq!(keys.len(), left);
+        }
+        assert_eq!((keys.next(), keys.next()), (None, None));
+        assert_eq!((encoding.is_empty(), encoding.key_len()), (set.keys.is_empty(), key_len(width)));
+    });
+}
+
+/// The vectors are the encodings, no longer and no shorter.
+#[test]
+fn into_vectors() {
+    rounds("into_vectors", 100, |rng| {
+        let width = random_width(rng);
+        let (a, b) = (random_set(rng, width, 60), random_set(rng, width, 60));
+        let pack = |set: &Set| loes::pack_to_vec(width as u64, &batch_of(set)).unwrap();
+        let laid = a.clone().lay();
+        assert_eq!(pack(&a), laid.encode());
+        assert_eq!(pack(&a).len(), Encoding::bytes_for(width as u64, laid.bits() as u64));
+        let (x, y) = (pack(&a), pack(&b));
+        assert_eq!(loes::union_to_vec(&x, &y).unwrap(), plain::union(&a, &b).unwrap().lay().encode());
+        assert_eq!(loes::difference_to_vec(&x, &y).unwrap(), plain::difference(&a, &b).unwrap().lay().encode());
+        assert_eq!(loes::union_to_vec(&x, &y[1..]), Err(Refusal::WrongTag));
+    });
+}
+
+/// A cursor through the Rust interface, checked and behind the check.
+#[test]
+fn cursors() {
+    rounds("cursors", 60, |rng| {
+        let width = random_width(rng);
+        let laid = random_set(rng, width, 30).lay();
+        let bytes = laid.encode();
+        let encoding = Encoding::open(&bytes).unwrap();
+        let (mut one, mut two) = (Cursor::new(), Cursor::default());
+        let mut key = vec![0; key_len(width)];
+        for (member, path) in laid.set.keys.iter().zip(laid.paths()) {
+            assert_eq!(encoding.advance(&mut one, &mut key[..0]), Err(Refusal::ShortBuffer));
+            assert_eq!(encoding.advance(&mut one, &mut key), Ok(member.len()));
+            assert_eq!(&key, member);
+            assert_eq!(loes::advance(&bytes, &mut two, &mut key), Ok(member.len()));
+            assert_eq!((&key, &one), (member, &two));
+            assert_eq!((one.state(), &one.offsets()[..width]), (State::At, &path[..]));
+            assert_eq!(Cursor::from_parts(one.state(), *one.offsets()), one);
+        }
+        assert_eq!(encoding.advance(&mut one, &mut []), Ok(0));
+        assert_eq!(one, Cursor::from_parts(State::After, [0; 256]));
+        assert_eq!(encoding.advance(&mut one, &mut []), Ok(0));
+        let mut wrong = Cursor::from_parts(State::After, [1; 256]);
+        assert_eq!(loes::advance(&bytes, &mut wrong, &mut key), Err(Refusal::BadCursor));
+        assert_eq!(wrong, Cursor::from_parts(State::After, [1; 256]));
+    });
+}

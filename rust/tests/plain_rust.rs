@@ -1,0 +1,69 @@
+//! The plain-Rust algorithms of the benchmark against the reference. Needs no library.
+
+#[macro_use]
+mod cases;
+mod plain;
+#[path = "../benches/plain_rust.rs"]
+mod plain_rust;
+
+use plain::Answer;
+use plain_rust::{Cursor, Opened};
+
+struct PlainRust;
+
+fn length(answer: Result<usize, u64>) -> Answer {
+    answer.map(|n| Some(n as u64))
+}
+
+impl Subject for PlainRust {
+    type Opened<'a> = (&'a [u8], Opened);
+
+    fn pack(width: u64, batch: &[u8], out: &mut [u8]) -> Answer {
+        length(plain_rust::pack(width, batch, out))
+    }
+
+    fn union(a: &[u8], b: &[u8], out: &mut [u8]) -> Answer {
+        length(plain_rust::union(a, b, out))
+    }
+
+    fn difference(a: &[u8], b: &[u8], out: &mut [u8]) -> Answer {
+        length(plain_rust::difference(a, b, out))
+    }
+
+    fn open(l: &[u8]) -> Result<((&[u8], Opened), [u64; 3]), u64> {
+        let e = plain_rust::open(l)?;
+        Ok(((l, e), [e.width, e.count, e.bits].map(|n| n as u64)))
+    }
+
+    fn ask(l: &[u8], question: &Question, out: &mut [u8]) -> Answer {
+        let (opened, _) = Self::open(l)?;
+        Self::ask_opened(&opened, question, out)
+    }
+
+    fn ask_opened((l, e): &(&[u8], Opened), question: &Question, out: &mut [u8]) -> Answer {
+        match question {
+            Question::Contains(key) => Ok(plain_rust::contains(l, e, key)?.then_some(1)),
+            Question::IndexOf(key) => plain_rust::index_of(l, e, key),
+            Question::LowerBound(key) => plain_rust::lower_bound(l, e, key),
+            Question::KeyAt(index) => length(plain_rust::key_at(l, e, *index, out)),
+            Question::Rank(offset) => plain_rust::rank(l, e, *offset).map(Some),
+        }
+    }
+
+    fn advance(l: &[u8], state: u64, offsets: &mut [u64], out: &mut [u8]) -> (Answer, u64) {
+        match Self::open(l) {
+            Err(refusal) => (Err(refusal), state),
+            Ok((opened, _)) => Self::advance_opened(&opened, state, offsets, out),
+        }
+    }
+
+    fn advance_opened((l, e): &(&[u8], Opened), state: u64, offsets: &mut [u64], out: &mut [u8]) -> (Answer, u64) {
+        let Ok(numbers) = offsets.try_into() else { return (Err(15), state) };
+        let mut cursor = Cursor { state, offsets: numbers };
+        let answer = plain_rust::advance(l, e, &mut cursor, out);
+        offsets.copy_from_slice(&cursor.offsets);
+        (length(answer), cursor.state)
+    }
+}
+
+differential_tests!(PlainRust);

@@ -1,0 +1,198 @@
+//! The reference against document 01's examples and refusals. Needs no library.
+
+#[allow(dead_code)]
+mod plain;
+
+use plain::{pack, read, Answer, Cursor, Laid, Set, Walk};
+
+fn of(width: usize, keys: &[u8]) -> Laid {
+    Set::new(width, keys.iter().map(|key| vec![*key])).lay()
+}
+
+fn hex(text: &str) -> Vec<u8> {
+    text.split_whitespace().map(|byte| u8::from_str_radix(byte, 16).unwrap()).collect()
+}
+
+fn packed(width: u64, batch: &[u8]) -> Result<Vec<u8>, u64> {
+    let mut out = vec![0; 70_000];
+    let n = pack(width, batch, &mut out).0?.unwrap();
+    out.truncate(n as usize);
+    Ok(out)
+}
+
+fn p2() -> Laid {
+    of(3, &[0x00, 0x60, 0xC0])
+}
+
+fn p2_bytes() -> Vec<u8> {
+    hex("01 00 02 00 03 02 00 04 00 00 00 03 03 00 0C 00 00 00 02 00 00 00 06 00 00 00 0C 04 00 02 F6 60 05 00 08 00 00 00 00 00 00 00 00 06 00 02 00 00")
+}
+
+#[test]
+fn p1() {
+    let bytes = hex("01 00 02 00 03 02 00 04 00 00 00 00 03 00 0C 00 00 00 00 00 00 00 00 00 00 00 00 04 00 00 05 00 00 06 00 00");
+    assert_eq!(bytes.len(), 36);
+    assert_eq!(packed(3, &[]), Ok(bytes.clone()));
+    assert_eq!(read(&bytes).map(|laid| (laid.width(), laid.count(), laid.bits())), Ok((3, 0, 0)));
+}
+
+#[test]
+fn p2_to_p4() {
+    let edges: String = p2().edges.iter().map(|set| if *set { '1' } else { '0' }).collect();
+    assert_eq!(edges, "111101100110");
+    assert_eq!(p2().encode(), p2_bytes());
+    assert_eq!(packed(3, &[0x00, 0x60, 0xC0]), Ok(p2_bytes()));
+    assert_eq!(read(&p2_bytes()), Ok(p2()));
+    assert_eq!(p2().rank(9), Ok(Some(7)));
+    assert_eq!(p2().index_of(&[0x60]), Ok(Some(1)));
+    assert_eq!(p2().contains(&[0xA0]), Ok(None));
+    assert!(!p2().edges[4]);
+    assert_eq!(p2().contains(&[0xC0]), Ok(Some(1)));
+}
+
+#[test]
+fn p5() {
+    let both = of(1, &[0x00, 0x80]);
+    assert_eq!((both.encode()[22], both.count()), (0xC0, 2));
+    assert_eq!(of(1, &[0x80]).encode()[22], 0x40);
+}
+
+#[test]
+fn p6_p7() {
+    let union = plain::union(&of(3, &[0x00, 0x60]).set, &of(3, &[0x60, 0xC0]).set).unwrap();
+    assert_eq!(union.lay().encode(), p2_bytes());
+    let difference = plain::difference(&p2().set, &p2().set).unwrap();
+    assert_eq!(Ok(difference.lay().encode()), packed(3, &[]));
+    assert_eq!(plain::union(&p2().set, &of(4, &[]).set), Err(13));
+}
+
+#[test]
+fn p8() {
+    assert_eq!(packed(3, &[0x00, 0x00, 0x60]), Ok(of(3, &[0x00, 0x60]).encode()));
+    assert_eq!(packed(3, &[0x60, 0x00]), Err(12));
+}
+
+#[test]
+fn p9() {
+    assert_eq!(p2().contains(&[0x61]), Err(8));
+    let mut out = [7, 7];
+    assert_eq!(p2().key_at(2, &mut out), Ok(Some(1)));
+    assert_eq!(out, [0xC0, 7]);
+    assert_eq!(p2().key_at(3, &mut out), Err(9));
+}
+
+#[test]
+fn p10() {
+    let all = of(3, &[0x00, 0x20, 0x40, 0x60, 0x80, 0xA0, 0xC0, 0xE0]);
+    assert_eq!((&all.encode()[30..32], all.bits()), (&[0xFF, 0xFC][..], 14));
+}
+
+#[test]
+fn others() {
+    assert_eq!(packed(0, &[]), Err(4));
+    assert_eq!(packed(257, &[]), Err(4));
+    assert!(packed(1, &[]).is_ok() && packed(256, &[]).is_ok());
+    assert_eq!(pack(3, &[0x00, 0x60, 0xC0], &mut [0; 47]).0, Err(14));
+    assert_eq!(pack(3, &[0x00, 0x60, 0xC0], &mut [0; 48]).0, Ok(Some(48)));
+    let mut bytes = p2_bytes();
+    bytes[23..27].copy_from_slice(&524_281u32.to_be_bytes());
+    assert_eq!(read(&bytes), Err(5));
+    bytes[23..27].copy_from_slice(&524_280u32.to_be_bytes());
+    assert_eq!(read(&bytes), Err(3));
+}
+
+/// One damage of P2 for each refusal of an encoding, and what comes first where two hold.
+#[test]
+fn refusals_of_encodings_in_order() {
+    let damaged = |edits: &[(usize, u8)], cut: usize| {
+        let mut bytes = p2_bytes();
+        for (at, value) in edits {
+            bytes[*at] = *value;
+        }
+        bytes.truncate(cut);
+        read(&bytes).err()
+    };
+    assert_eq!(damaged(&[], 48), None);
+    for cut in 0..48 {
+        assert_eq!(damaged(&[], cut), Some(1), "cut at {cut}");
+    }
+    // 1 for a head comes before 2, 2 before 3, 3 before 1 for a body
+    assert_eq!(damaged(&[(0, 2)], 2), Some(1));
+    assert_eq!(damaged(&[(0, 2), (2, 3)], 4), Some(2));
+    assert_eq!(damaged(&[(2, 3)], 4), Some(3));
+    for tag in [0, 1, 3, 4, 5, 6, 7, 255] {
+        assert_eq!(damaged(&[(5, tag)], 48), Some(2));
+    }
+    // 4 follows field 1, 5 follows field 3
+    assert_eq!(damaged(&[(4, 0), (5, 9)], 48), Some(4));
+    assert_eq!(damaged(&[(3, 1), (4, 0), (5, 9)], 48), Some(2), "width 256");
+    assert_eq!(damaged(&[(3, 1), (4, 1)], 48), Some(4), "width 257");
+    assert_eq!(damaged(&[(24, 8), (27, 9)], 48), Some(5), "b of 524,300");
+    // 7: a wrong count, a wrong level, an empty record, a left-over bit, a wrong entry in either index
+    for edit in [(11, 2), (11, 4), (18, 4), (22, 4), (30, 0xF4), (31, 0x61), (31, 0x64), (42, 1), (47, 1)] {
+        assert_eq!(damaged(&[edit], 48), Some(7), "{edit:?}");
+    }
+    // 6 comes before 7
+    let mut bytes = p2_bytes();
+    bytes.push(0);
+    assert_eq!(read(&bytes), Err(6));
+    bytes[11] = 9;
+    assert_eq!(read(&bytes), Err(6));
+}
+
+#[test]
+fn refusals_of_batches_in_order() {
+    let refused = |width, batch: &[u8], room: usize| pack(width, batch, &mut vec![0; room]).0;
+    assert_eq!(refused(0, &[1], 0), Err(4));
+    assert_eq!(refused(9, &[1], 0), Err(10));
+    assert_eq!(refused(9, &[1, 1, 0], 0), Err(10));
+    assert_eq!(refused(3, &[0x60, 0x01, 0x00], 0), Err(11), "an unused bit, and the next is smaller");
+    assert_eq!(refused(3, &[0x60, 0x40, 0x01], 0), Err(12), "smaller, and the next has an unused bit");
+    assert_eq!(refused(3, &[0x60, 0x41], 0), Err(11), "both in one key");
+    assert_eq!(refused(3, &[0x60], 0), Err(14));
+    let key = |number: u32| (number << 14).to_be_bytes()[..3].to_vec();
+    let full: Vec<u8> = (0..1 << 18).flat_map(key).collect();
+    assert_eq!(refused(18, &full, 0), Err(5));
+}
+
+/// b is even, so that 512 bits have one sub-block and 514 two; block two starts over.
+#[test]
+fn index_entries() {
+    let level = |n: usize| plain::index_bodies(&vec![true; n]);
+    assert_eq!(level(0), (vec![], vec![]));
+    assert_eq!(level(512), (vec![0; 8], vec![0; 2]));
+    assert_eq!(level(513), (vec![0; 8], vec![0, 0, 2, 0]));
+    assert_eq!(level(65_536).0.len(), 8);
+    let (blocks, sub_blocks) = level(65_537);
+    assert_eq!(blocks, [0, 0, 0, 0, 0, 0, 0, 0, 0, 0, 0, 0, 0, 1, 0, 0]);
+    assert_eq!(sub_blocks.len(), 2 * 129);
+    assert_eq!(sub_blocks[2 * 127..], [0xFE, 0x00, 0x00, 0x00]);
+}
+
+/// P2's walk: each member's edges are set, and its last edge has the rank that its index asks for.
+#[test]
+fn walk() {
+    let laid = p2();
+    assert_eq!(laid.paths(), [[0, 2, 6], [0, 3, 9], [1, 5, 10]]);
+    let walk = Walk::over(&laid);
+    let mut cursor = Cursor::before();
+    let mut steps: Vec<(Answer, u8, u64)> = Vec::new();
+    let mut out = [0xEE];
+    assert_eq!(walk.advance(&mut cursor, &mut []), Err(14));
+    assert_eq!(cursor, Cursor::before());
+    for _ in 0..5 {
+        let answer = walk.advance(&mut cursor, &mut out);
+        steps.push((answer, out[0], cursor.state));
+    }
+    let wrote = Ok(Some(1));
+    let none = Ok(Some(0));
+    assert_eq!(steps, [(wrote, 0x00, 1), (wrote, 0x60, 1), (wrote, 0xC0, 1), (none, 0xC0, 2), (none, 0xC0, 2)]);
+    assert_eq!(walk.advance(&mut cursor, &mut []), Ok(Some(0)));
+    cursor.offsets[255] = 1;
+    assert_eq!(walk.advance(&mut cursor, &mut out), Err(15));
+    let mut mixed = Cursor::before();
+    mixed.state = 1;
+    mixed.offsets[..3].copy_from_slice(&[0, 3, 6]);
+    assert_eq!(walk.advance(&mut mixed, &mut []), Err(15));
+    assert_eq!(Walk::over(&of(3, &[])).advance(&mut Cursor::before(), &mut []), Ok(Some(0)));
+}
