@@ -49,6 +49,9 @@ pub fn number8(l: &[u8], at: usize) -> usize
     number4(l, at) * 4_294_967_296 + number4(l, at + 4)
 }
 
+// What a byte with an empty record adds to its tally; the set bits of 64 bytes stay below it.
+pub const EMPTY_RECORD: usize = 1024;
+
 // The tallies of bytes from..upto, at most 64 of them: their set bits, and 1,024 more for each byte with an empty record.
 pub fn tally_bytes(l: &[u8], t: &[u16], from: usize, upto: usize) -> usize
     requires { ⌜ (from ≤ upto) × (upto ≤ length (now l)) × (upto ≤ from + 64) × Tallies (now t) ⌝ }

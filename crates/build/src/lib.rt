@@ -89,7 +89,7 @@ fn count_to(edges: &[u8], t: &[u16], s: Seen, upto: usize) -> Seen
     let mut i = s.bytes;
     while i < upto {
         let x = edges[i] as usize;
-        n += t[x] as usize % 1024;
+        n += t[x] as usize % bits::EMPTY_RECORD;
         i += 1;
     }
     Seen {
@@ -108,7 +108,7 @@ fn ones_at(edges: &[u8], t: &[u16], s: Seen, o: usize) -> usize
         return s.ones;
     }
     let x = edges[o / 8] as usize;
-    s.ones + t[x >> (8 - k)] as usize % 1024
+    s.ones + t[x >> (8 - k)] as usize % bits::EMPTY_RECORD
 }
 
 // Where each level ends; returns the number of members.

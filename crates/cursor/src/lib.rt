@@ -53,7 +53,7 @@ impl Cursor {
     }
 
     // At the member of a path.
-    pub fn at(path: [usize; 256]) -> Cursor
+    pub fn at(path: [usize; Encoding::MAX_WIDTH]) -> Cursor
         ensures { λ r. ⌜ cursorOf r ≡ at spec.at path ⌝ }
     {
         let mut offsets = [EdgeOffset(0); Encoding::MAX_WIDTH];
@@ -251,7 +251,7 @@ fn step_at(
     t: &[u16],
     e: Encoding,
     c: Cursor,
-    path: [usize; 256],
+    path: [usize; Encoding::MAX_WIDTH],
     out: &mut [u8],
 ) -> Stepped
     requires { ⌜ Opens (now l) e × Tallies (now t) × (cursorOf c ≡ at spec.at path) × (spec.isCursorOf (entryIn (now l)) (cursorOf c) ≡ true) ⌝ }

@@ -17,6 +17,7 @@ ghost use Rattle.encoding.specs.Opened.{Opens, Placed, Room, Counted, ed
 ghost use Rattle.encoding.specs.Fields.{refusalOf, bodyBytes, laidBy, Fields, Parsed, Checks};
 ghost use Rattle.encoding.specs.Agree.{Tells, EntriesAt, Whole, Last, Levelled};
 ghost use Rattle.encoding.specs.Answers.{toldOutcome, rankedOutcome};
+use bits::EMPTY_RECORD;
 use bits::EdgeOffset;
 use loes::refusal;
 
@@ -43,8 +44,6 @@ const LEVELS: usize = 15;
 const SUB_BLOCK_BYTES: usize = Encoding::SUB_BLOCK_BITS / 8;
 // The sub-blocks of a block.
 const SUB_BLOCKS: usize = Encoding::BLOCK_BITS / Encoding::SUB_BLOCK_BITS;
-// What a tally has more for a byte with an empty record.
-const EMPTY_RECORD: usize = 1024;
 
 // How many parts of a size are started by n.
 fn started_by(n: usize, size: usize) -> usize

@@ -173,15 +173,13 @@ fn bad_key(e: Encoding, key: &[u8]) -> bool
 const SUB_BLOCKS: usize = Encoding::BLOCK_BITS / Encoding::SUB_BLOCK_BITS;
 
 const SUB_BLOCK_BYTES: usize = Encoding::SUB_BLOCK_BITS / 8;
-// What a byte's tally is above its set bits if one of its records is empty.
-const EMPTY: usize = 1024;
 
 // The set bits of a byte.
 fn ones_in(t: &[u16], x: u8) -> usize
     requires { ⌜ Tallies (now t) ⌝ }
     ensures { λ r. ⌜ r ≡ ones (bits8 x) ⌝ }
 {
-    (t[x as usize] as usize) % EMPTY
+    (t[x as usize] as usize) % bits::EMPTY_RECORD
 }
 
 // The offset of the set bit that has `left` set bits before it from byte `from` on.
