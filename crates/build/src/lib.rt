@@ -3,7 +3,7 @@ ghost use Prim.Native.Nat.{ℕ, _+_, _-_, _*_, _/_, _%_, _^_, _<_, _≤_};
 ghost use mathlib.Core.Path.{_≡_};
 ghost use mathlib.Core.List.{[], _∷_, _++_};
 ghost use lib.ListN.{length, getD};
-ghost use Rattle.loes.specs.Limits.{blockBits, subBlockBits};
+ghost use Rattle.loes.specs.Limits.{maxWidth, maxEdges, blockBits, subBlockBits};
 ghost use Rattle.loes.specs.Bytes.{bigEndian, bigEndians, started, bitsIn, front};
 ghost use Rattle.loes.specs.Edges.{ones};
 ghost use Rattle.loes.specs.Encode.{field, blockOnes, subBlockOnes, widthBody, countBody, levelBody, edgeBody, blockBody, subBlockBody, encode};
@@ -82,7 +82,7 @@ pub struct Seen {
 
 // Counts on, to the first `upto` bytes.
 fn count_to(edges: &[u8], t: &[u16], s: Seen, upto: usize) -> Seen
-    requires { ⌜ Counts (now edges) s × Tallies (now t) × (s .bytes ≤ upto) × (upto ≤ length (now edges)) × (length (now edges) ≤ 65535) ⌝ }
+    requires { ⌜ Counts (now edges) s × Tallies (now t) × (s .bytes ≤ upto) × (upto ≤ length (now edges)) × (length (now edges) ≤ maxEdges / 8) ⌝ }
     ensures { λ r. ⌜ Counts (now (edges .entry)) r × (r .bytes ≡ upto) ⌝ }
 {
     let mut n = s.ones;
@@ -100,7 +100,7 @@ fn count_to(edges: &[u8], t: &[u16], s: Seen, upto: usize) -> Seen
 
 // The set bits before an offset in the byte behind those seen.
 fn ones_at(edges: &[u8], t: &[u16], s: Seen, o: usize) -> usize
-    requires { ⌜ Counts (now edges) s × Tallies (now t) × (s .bytes ≡ o / 8) × (o ≤ 8 * length (now edges)) × (length (now edges) ≤ 65535) ⌝ }
+    requires { ⌜ Counts (now edges) s × Tallies (now t) × (s .bytes ≡ o / 8) × (o ≤ 8 * length (now edges)) × (length (now edges) ≤ maxEdges / 8) ⌝ }
     ensures { λ r. ⌜ r ≡ ones (bitsIn (now (edges .entry)) o) ⌝ }
 {
     let k = o % 8;
@@ -113,7 +113,7 @@ fn ones_at(edges: &[u8], t: &[u16], s: Seen, o: usize) -> usize
 
 // Where each level ends; returns the number of members.
 fn level_ends(edges: &[u8], t: &[u16], m: usize, b: usize, ends: &mut [usize]) -> usize
-    requires { ⌜ Holds m b (now edges) × Tallies (now t) × (length (now edges) ≤ 65535) × (m ≤ length (now ends)) ⌝ }
+    requires { ⌜ Holds m b (now edges) × Tallies (now t) × (length (now edges) ≤ maxEdges / 8) × (m ≤ length (now ends)) ⌝ }
     ensures { λ r. ⌜ Shaped m b (now (edges .entry)) (now (ends .exit)) r ⌝ }
 {
     let c = encoding::roots_of(b);
@@ -133,7 +133,7 @@ fn level_ends(edges: &[u8], t: &[u16], m: usize, b: usize, ends: &mut [usize]) -
 // ---- Fields of numbers, each written behind its head one after another
 // Field 3: where each of m levels ends.
 fn put_levels(out: &mut [u8], m: usize, ends: &[usize])
-    requires { ⌜ (3 + levelBytes m ≤ length (now out)) × (m ≤ 256) × (m ≤ length (now ends)) ⌝ }
+    requires { ⌜ (3 + levelBytes m ≤ length (now out)) × (m ≤ maxWidth) × (m ≤ length (now ends)) ⌝ }
     ensures { λ _. ⌜ now (out .exit) ≡ front (field 3 (bigEndians 4 (λ (d : ℕ). getD (now (ends .entry)) d 0) m)) (now (out .entry)) ⌝ }
 {
     put_head(out, 3, 4 * m);
@@ -148,7 +148,7 @@ fn put_levels(out: &mut [u8], m: usize, ends: &[usize])
 
 // Field 5: for each started block, the set bits before it.
 fn put_blocks(out: &mut [u8], edges: &[u8], t: &[u16], b: usize)
-    requires { ⌜ (3 + blockBytes b ≤ length (now out)) × (b ≤ 8 * length (now edges)) × (length (now edges) ≤ 65535) × Tallies (now t) ⌝ }
+    requires { ⌜ (3 + blockBytes b ≤ length (now out)) × (b ≤ 8 * length (now edges)) × (length (now edges) ≤ maxEdges / 8) × Tallies (now t) ⌝ }
     ensures { λ _. ⌜ now (out .exit) ≡ front (field 5 (bigEndians 8 (blockOnes (bitsIn (now (edges .entry)) b)) (started blockBits b))) (now (out .entry)) ⌝ }
 {
     let blocks = (b + BLOCK_REST) / Encoding::BLOCK_BITS;
@@ -172,7 +172,7 @@ fn block_base(j: usize, base: usize, ones: usize) -> usize
 
 // Field 6: for each started sub-block, the set bits of its block before it.
 fn put_sub_blocks(out: &mut [u8], edges: &[u8], t: &[u16], b: usize)
-    requires { ⌜ (3 + subBlockBytes b ≤ length (now out)) × (b ≤ 8 * length (now edges)) × (length (now edges) ≤ 65535) × Tallies (now t) ⌝ }
+    requires { ⌜ (3 + subBlockBytes b ≤ length (now out)) × (b ≤ 8 * length (now edges)) × (length (now edges) ≤ maxEdges / 8) × Tallies (now t) ⌝ }
     ensures { λ _. ⌜ now (out .exit) ≡ front (field 6 (bigEndians 2 (subBlockOnes (bitsIn (now (edges .entry)) b)) (started subBlockBits b))) (now (out .entry)) ⌝ }
 {
     let subs = (b + SUB_BLOCK_REST) / Encoding::SUB_BLOCK_BITS;
@@ -210,7 +210,7 @@ fn put_count(out: &mut [u8], n: usize)
 
 // Fields 1 to 3, each behind the one before it.
 fn put_shape(out: &mut [u8], m: usize, n: usize, ends: &[usize])
-    requires { ⌜ (15 + levelBytes m ≤ length (now out)) × (m ≤ 256) × (m ≤ length (now ends)) ⌝ }
+    requires { ⌜ (15 + levelBytes m ≤ length (now out)) × (m ≤ maxWidth) × (m ≤ length (now ends)) ⌝ }
     ensures { λ _. ⌜ now (out .exit) ≡ front ((field 1 (bigEndian 2 m) ++ field 2 (bigEndian 4 n)) ++ field 3 (bigEndians 4 (λ (d : ℕ). getD (now (ends .entry)) d 0) m)) (now (out .entry)) ⌝ }
 {
     put_width(out, m);
@@ -220,7 +220,7 @@ fn put_shape(out: &mut [u8], m: usize, n: usize, ends: &[usize])
 
 // Fields 4 to 6, each behind the one before it.
 fn put_edges(out: &mut [u8], edges: &[u8], t: &[u16], b: usize)
-    requires { ⌜ (9 + length (now edges) + blockBytes b + subBlockBytes b ≤ length (now out)) × (b ≤ 8 * length (now edges)) × (length (now edges) ≤ 65535) × Tallies (now t) ⌝ }
+    requires { ⌜ (9 + length (now edges) + blockBytes b + subBlockBytes b ≤ length (now out)) × (b ≤ 8 * length (now edges)) × (length (now edges) ≤ maxEdges / 8) × Tallies (now t) ⌝ }
     ensures { λ _. ⌜ now (out .exit) ≡ front ((field 4 (now (edges .entry)) ++ field 5 (bigEndians 8 (blockOnes (bitsIn (now (edges .entry)) b)) (started blockBits b))) ++ field 6 (bigEndians 2 (subBlockOnes (bitsIn (now (edges .entry)) b)) (started subBlockBits b))) (now (out .entry)) ⌝ }
 {
     let at5 = 3 + edges.len();
@@ -239,7 +239,7 @@ pub enum Written {
 
 // The length of an encoding of width m with b edge bits.
 fn length_of(m: usize, b: usize) -> usize
-    requires { ⌜ (m ≤ 256) × (b ≤ 524280) ⌝ }
+    requires { ⌜ (m ≤ maxWidth) × (b ≤ maxEdges) ⌝ }
     ensures { λ r. ⌜ r ≡ endOf m b ⌝ }
 {
     24
@@ -250,7 +250,7 @@ fn length_of(m: usize, b: usize) -> usize
 }
 
 fn no_ends() -> [usize; Encoding::MAX_WIDTH]
-    ensures { λ r. ⌜ length r ≡ 256 ⌝ }
+    ensures { λ r. ⌜ length r ≡ maxWidth ⌝ }
 {
     [0usize; Encoding::MAX_WIDTH]
 }

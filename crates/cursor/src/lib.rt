@@ -4,6 +4,7 @@ ghost use mathlib.Core.Path.{_≡_};
 ghost use mathlib.Core.Bool.{true, false};
 ghost use mathlib.Core.List.{[]};
 ghost use lib.ListN.{length, getD, drop, replicate};
+ghost use Rattle.loes.specs.Limits.{maxWidth};
 ghost use Rattle.loes.specs.Bytes.{front};
 ghost use Rattle.loes.specs.Entry.{keysOf, edgesOf};
 ghost use Rattle.loes.specs.Read.{entryIn};
@@ -34,7 +35,7 @@ pub struct Cursor {
 impl Cursor {
     // Before the first member.
     pub fn before() -> Cursor
-        ensures { λ r. ⌜ cursorOf r ≡ at spec.before (replicate 256 0) ⌝ }
+        ensures { λ r. ⌜ cursorOf r ≡ at spec.before (replicate maxWidth 0) ⌝ }
     {
         Cursor {
             state: State::Before,
@@ -44,7 +45,7 @@ impl Cursor {
 
     // After the last member.
     pub fn after() -> Cursor
-        ensures { λ r. ⌜ cursorOf r ≡ at spec.after (replicate 256 0) ⌝ }
+        ensures { λ r. ⌜ cursorOf r ≡ at spec.after (replicate maxWidth 0) ⌝ }
     {
         Cursor {
             state: State::After,
@@ -282,7 +283,7 @@ fn step_at(
 
 // From before the first member.
 fn step_before(l: &[u8], t: &[u16], e: Encoding, c: Cursor, out: &mut [u8]) -> Stepped
-    requires { ⌜ Opens (now l) e × Tallies (now t) × (cursorOf c ≡ at spec.before (replicate 256 0)) ⌝ }
+    requires { ⌜ Opens (now l) e × Tallies (now t) × (cursorOf c ≡ at spec.before (replicate maxWidth 0)) ⌝ }
     ensures { λ r. ⌜ steppedOf r (now (out .exit)) ≡ spec.advance (entryIn (now (l .entry))) (cursorOf c) (now (out .entry)) ⌝ }
 {
     if e.bits == 0 {

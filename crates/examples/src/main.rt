@@ -6,6 +6,7 @@ use build::Written;
 use cursor::Cursor;
 use cursor::Step;
 use cursor::Stepped;
+use encoding::Encoding;
 use encoding::Ranked;
 use encoding::Told;
 use libc::STDOUT_FILENO;
@@ -544,7 +545,7 @@ fn lent() -> bool {
         return false;
     }
     // no member's path
-    let mut path = [0usize; 256];
+    let mut path = [0usize; Encoding::MAX_WIDTH];
     path[2] = 1;
     let mut out = [0u8; 1];
     let lost = cursor::advanced_call(&P2, Cursor::at(path), &mut out);

@@ -1,6 +1,6 @@
 -- From two checks to a pair, and from the edges of a join to the call.
 use mathlib.Core.Path.{_≡_, refl, sym, ap, ap₂, _∙_, subst}
-use Prim.Native.Nat.{ℕ, _+_, _-_, _/_, _≤_, _<_}
+use Prim.Native.Nat.{ℕ, _+_, _*_, _-_, _/_, _≤_, _<_}
 use mathlib.Core.Bool.{Bool, true, false, not, cond}
 use mathlib.Core.List.{List, [], _∷_}
 use native.Mathlib.Omega.{arith}
@@ -21,7 +21,7 @@ use Rattle.loes.proofs.Reading.{bits-front, followed-sized}
 use Rattle.loes.proofs.Writes.{writes-refused, writes-on}
 use Rattle.encoding.specs.Opened.{Opens}
 use Rattle.encoding.specs.Fields.{Checks}
-use Rattle.encoding.proofs.Opened.{opens-valid, opens-held, opens-holds}
+use Rattle.encoding.proofs.Opened.{opens-room, opens-valid, opens-held, opens-holds}
 use Rattle.encoding.specs.declared.Encoding.{Encoding}
 use Rattle.encoding.specs.declared.Checked.{Checked}
 use Rattle.encoding.specs.declared.Checked.the-variants as checked
@@ -123,6 +123,11 @@ module _ (m k : ℕ) (l : Bytes) (j : Joined m k l) where
       }
 
 -- ---- The whole call on two encodings of one width
+-- an encoding has fewer edges than bits
+pub opens-short : (l : Bytes) (e : Encoding) → Opens l e → e .bits ≤ 8 * length l
+unfolding started
+opens-short l e p = omega (arith, opens-room l e p .edges)
+
 tail-is : (l : Bytes) (n : ℕ) → take (length l - n) (drop n l) ≡ drop n l
 tail-is l n = take-all (length l - n) (drop n l) (omega (arith, length-drop n l))
 

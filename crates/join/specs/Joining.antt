@@ -5,7 +5,7 @@ use mathlib.Core.Bool.{cond}
 use mathlib.Core.List.{[], _∷_}
 use lib.ListN.{length, take}
 use lib.Dec.{eqb}
-use Rattle.loes.specs.Limits.{maxWidth}
+use Rattle.loes.specs.Limits.{maxWidth, maxEdges}
 use Rattle.loes.specs.Bytes.{Bytes, started, packBits, bitsIn}
 use Rattle.loes.specs.Keys.{either, without}
 use Rattle.loes.specs.Entry.{Entry, edgesOf, withSet}
@@ -14,6 +14,7 @@ use Rattle.loes.specs.Held.{held}
 use Rattle.loes.specs.Model.{Outcome, refusal, joinTests, writes}
 use Rattle.loes.specs.Calls.{reading}
 use Rattle.encoding.specs.Opened.{Opens}
+use Rattle.merge.specs.Union.{Room}
 use Rattle.encoding.specs.declared.Checked.{Checked}
 use Rattle.encoding.specs.declared.Checked.the-variants as checked
 use Rattle.join.specs.declared.Join.{Join}
@@ -48,3 +49,8 @@ pub record Joined (m k : ℕ) (l : Bytes) : Type 0 where
   pub room : k ≤ 8 * length l
   pub same : edgesOf (held m k l) ≡ bitsIn l k
   pub whole : take (started 8 k) l ≡ packBits (bitsIn l k)
+
+-- room in a queue and for merged edges, for whatever two encodings of these lengths have
+pub record Rooms (x y : ℕ) (q l : Bytes) : Type 0 where
+  pub enough : (ba bb : ℕ) → ba ≤ 8 * x → ba ≤ maxEdges → bb ≤ 8 * y → bb ≤ maxEdges → Room ba bb q l
+  pub bounded : length l ≤ 131072

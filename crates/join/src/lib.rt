@@ -10,7 +10,8 @@ ghost use Rattle.loes.specs.Calls.{unionCall, differenceCall};
 ghost use Rattle.bits.specs.Tables.{Tallies};
 ghost use Rattle.build.specs.Writing.{writtenOutcome};
 ghost use Rattle.merge.specs.Records.{Written as Collected};
-ghost use Rattle.join.specs.Joining.{pairOf, Both, joinOf, Joined, joinCall};
+ghost use Rattle.merge.specs.Union.{Room};
+ghost use Rattle.join.specs.Joining.{pairOf, Both, joinOf, Joined, Rooms, joinCall};
 use build::Written;
 use encoding::Checked;
 use encoding::Encoding;
@@ -64,16 +65,20 @@ fn joined_edges(
     ba: usize,
     b: &[u8],
     bb: usize,
+    q: &mut [u8],
     out: &mut [u8],
 ) -> usize
     requires { ⌜ Holds m ba (now a) ⌝ }
     requires { ⌜ Holds m bb (now b) ⌝ }
-    requires { ⌜ ba + bb < 8 * length (now out) ⌝ }
+    requires { ⌜ Room ba bb (now q) (now out) ⌝ }
     ensures { λ k. ⌜ Collected (edgesOf (joinOf kind (held m ba (now (a .entry))) (held m bb (now (b .entry))))) (now (out .entry)) (now (out .exit)) k ⌝ }
 {
     match kind {
-        Join::Union => merge::union_edges(m, a, ba, b, bb, out),
-        Join::Difference => merge::difference_edges(m, a, ba, b, bb, out),
+        Join::Union => {
+            let u = merge::merge(m, a, ba, b, bb, q, out);
+            u.edges
+        }
+        Join::Difference => merge::subtract(m, a, ba, b, bb, q, out),
     }
 }
 
@@ -89,9 +94,17 @@ fn write_joined(m: usize, k: usize, edges: &[u8], t: &[u16], out: &mut [u8]) -> 
     build::write(m, k, &edges[..n], t, out)
 }
 
-// Joins with the counting table and room for the edges lent.
-fn join_with(kind: Join, a: &[u8], b: &[u8], t: &[u16], edges: &mut [u8], out: &mut [u8]) -> Written
-    requires { ⌜ (length (now edges) ≡ 131072) × Tallies (now t) ⌝ }
+// Joins with the counting table, a queue and room for the edges lent.
+fn join_with(
+    kind: Join,
+    a: &[u8],
+    b: &[u8],
+    t: &[u16],
+    q: &mut [u8],
+    edges: &mut [u8],
+    out: &mut [u8],
+) -> Written
+    requires { ⌜ Rooms (length (now a)) (length (now b)) (now q) (now edges) × Tallies (now t) ⌝ }
     ensures { λ r. ⌜ writtenOutcome r (now (out .exit)) ≡ joinCall (joinOf kind) (now (a .entry)) (now (b .entry)) (now (out .entry)) ⌝ }
 {
     let pair = open_both(a, b, t);
@@ -107,6 +120,7 @@ fn join_with(kind: Join, a: &[u8], b: &[u8], t: &[u16], edges: &mut [u8], out: &
                 e.bits,
                 &b[other..],
                 f.bits,
+                q,
                 edges,
             );
             write_joined(e.width, k, edges, t, out)
@@ -114,29 +128,85 @@ fn join_with(kind: Join, a: &[u8], b: &[u8], t: &[u16], edges: &mut [u8], out: &
     }
 }
 
-// Room for the edges of two largest encodings.
-const EDGE_ROOM: usize = 131072;
+// ---- Rooms: for the flags that merging pushes, and for the merged edges
+// Up to this length encodings are joined in small rooms, which are quicker to clear.
+const SMALL: usize = 2048;
 
-fn edge_room() -> [u8; EDGE_ROOM]
-    ensures { λ r. ⌜ length r ≡ 131072 ⌝ }
+const SMALL_QUEUE: usize = 4 * SMALL + 64;
+
+const SMALL_EDGES: usize = 2 * SMALL + 64;
+
+// For any two encodings.
+const QUEUE: usize = 262144;
+
+const EDGES: usize = 131072;
+
+fn small_queue() -> [u8; SMALL_QUEUE]
+    ensures { λ r. ⌜ length r ≡ 8256 ⌝ }
 {
-    [0; EDGE_ROOM]
+    [0; SMALL_QUEUE]
 }
 
+fn small_edges() -> [u8; SMALL_EDGES]
+    ensures { λ r. ⌜ length r ≡ 4160 ⌝ }
+{
+    [0; SMALL_EDGES]
+}
+
+fn large_queue() -> [u8; QUEUE]
+    ensures { λ r. ⌜ length r ≡ 262144 ⌝ }
+{
+    [0; QUEUE]
+}
+
+fn large_edges() -> [u8; EDGES]
+    ensures { λ r. ⌜ length r ≡ 131072 ⌝ }
+{
+    [0; EDGES]
+}
+
+fn join_small(kind: Join, a: &[u8], b: &[u8], t: &[u16], out: &mut [u8]) -> Written
+    requires { ⌜ (length (now a) ≤ 2048) × (length (now b) ≤ 2048) × Tallies (now t) ⌝ }
+    ensures { λ r. ⌜ writtenOutcome r (now (out .exit)) ≡ joinCall (joinOf kind) (now (a .entry)) (now (b .entry)) (now (out .entry)) ⌝ }
+{
+    let mut q = small_queue();
+    let mut edges = small_edges();
+    join_with(kind, a, b, t, &mut q, &mut edges, out)
+}
+
+fn join_large(kind: Join, a: &[u8], b: &[u8], t: &[u16], out: &mut [u8]) -> Written
+    requires { ⌜ Tallies (now t) ⌝ }
+    ensures { λ r. ⌜ writtenOutcome r (now (out .exit)) ≡ joinCall (joinOf kind) (now (a .entry)) (now (b .entry)) (now (out .entry)) ⌝ }
+{
+    let mut q = large_queue();
+    let mut edges = large_edges();
+    join_with(kind, a, b, t, &mut q, &mut edges, out)
+}
+
+fn join_any(kind: Join, a: &[u8], b: &[u8], out: &mut [u8]) -> Written
+    ensures { λ r. ⌜ writtenOutcome r (now (out .exit)) ≡ joinCall (joinOf kind) (now (a .entry)) (now (b .entry)) (now (out .entry)) ⌝ }
+{
+    let t = bits::tallies();
+    if a.len() > SMALL {
+        return join_large(kind, a, b, &t, out);
+    }
+    if b.len() > SMALL {
+        return join_large(kind, a, b, &t, out);
+    }
+    join_small(kind, a, b, &t, out)
+}
+
+// ---- The calls
 // The keys in either set, written to the front of a buffer (document 01: fold).
 pub fn union(a: &[u8], b: &[u8], out: &mut [u8]) -> Written
     ensures { λ r. ⌜ writtenOutcome r (now (out .exit)) ≡ unionCall (now (a .entry)) (now (b .entry)) (now (out .entry)) ⌝ }
 {
-    let t = bits::tallies();
-    let mut edges = edge_room();
-    join_with(Join::Union, a, b, &t, &mut edges, out)
+    join_any(Join::Union, a, b, out)
 }
 
 // The keys in the first set but not in the second (document 01: strike).
 pub fn difference(a: &[u8], b: &[u8], out: &mut [u8]) -> Written
     ensures { λ r. ⌜ writtenOutcome r (now (out .exit)) ≡ differenceCall (now (a .entry)) (now (b .entry)) (now (out .entry)) ⌝ }
 {
-    let t = bits::tallies();
-    let mut edges = edge_room();
-    join_with(Join::Difference, a, b, &t, &mut edges, out)
+    join_any(Join::Difference, a, b, out)
 }

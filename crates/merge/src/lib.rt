@@ -329,33 +329,3 @@ pub fn subtract(
     mark(out, q, r, n, FIRST_ONLY);
     collect(q, r, out)
 }
-
-// Bytes for the flags that merging two largest sets pushes.
-const QUEUE_BYTES: usize = 262144;
-
-pub fn queue_room() -> [u8; QUEUE_BYTES] {
-    [0; QUEUE_BYTES]
-}
-
-// The edges of the union, with a queue of its own.
-pub fn union_edges(m: usize, a: &[u8], ba: usize, b: &[u8], bb: usize, out: &mut [u8]) -> usize
-    requires { ⌜ Holds m ba (now a) ⌝ }
-    requires { ⌜ Holds m bb (now b) ⌝ }
-    requires { ⌜ ba + bb < 8 * length (now out) ⌝ }
-    ensures { λ k. ⌜ Written (edgesOf (unionOf (held m ba (now (a .entry))) (held m bb (now (b .entry))))) (now (out .entry)) (now (out .exit)) k ⌝ }
-{
-    let mut q = queue_room();
-    let u = merge(m, a, ba, b, bb, &mut q, out);
-    u.edges
-}
-
-// The edges of the difference, with a queue of its own.
-pub fn difference_edges(m: usize, a: &[u8], ba: usize, b: &[u8], bb: usize, out: &mut [u8]) -> usize
-    requires { ⌜ Holds m ba (now a) ⌝ }
-    requires { ⌜ Holds m bb (now b) ⌝ }
-    requires { ⌜ ba + bb < 8 * length (now out) ⌝ }
-    ensures { λ k. ⌜ Written (edgesOf (differenceOf (held m ba (now (a .entry))) (held m bb (now (b .entry))))) (now (out .entry)) (now (out .exit)) k × (k ≤ ba) ⌝ }
-{
-    let mut q = queue_room();
-    subtract(m, a, ba, b, bb, &mut q, out)
-}

@@ -14,9 +14,9 @@ const LINE: usize = 96;
 
 const KEY_BYTES: usize = Encoding::MAX_WIDTH / 8;
 
-const LINE_FEED: u8 = 10;
+const LINE_FEED: u8 = b'\n';
 
-const SPACE: u8 = 32;
+const SPACE: u8 = b' ';
 
 // ---- Text put behind what is there; what does not fit is dropped
 fn put(text: &mut [u8], at: usize, b: u8) -> usize {
@@ -46,7 +46,7 @@ pub fn put_number(text: &mut [u8], at: usize, n: usize) -> usize {
 // The last digit of a number in upper-case hexadecimal.
 fn glyph(x: u8) -> u8 {
     let d = x % 16;
-    if d < 10 { 48 + d } else { 55 + d }
+    if d < 10 { b'0' + d } else { b'A' + (d - 10) }
 }
 
 fn put_key(text: &mut [u8], at: usize, key: &[u8]) -> usize {

@@ -144,7 +144,7 @@ pub fn locate(l: &[u8], t: &[u16], e: Encoding, key: &[u8]) -> Position
 // ---- Keys as they are given
 // Whether a bit behind the m bits of a key is set.
 fn unused_set(key: &[u8], m: usize) -> bool
-    requires { ⌜ (length (now key) ≡ keyBytes m) × (m ≤ 256) ⌝ }
+    requires { ⌜ (length (now key) ≡ keyBytes m) × (m ≤ maxWidth) ⌝ }
     ensures { λ r. ⌜ r ≡ unusedSet m (now (key .entry)) ⌝ }
 {
     let mut o = m;
@@ -159,7 +159,7 @@ fn unused_set(key: &[u8], m: usize) -> bool
 
 // Refusal 8: not t bytes, or an unused bit set.
 fn bad_key(e: Encoding, key: &[u8]) -> bool
-    requires { ⌜ e .width ≤ 256 ⌝ }
+    requires { ⌜ e .width ≤ maxWidth ⌝ }
     ensures { λ r. ⌜ r ≡ (not (eqb (length (now (key .entry))) (keyBytes (e .width))) || unusedSet (e .width) (now (key .entry))) ⌝ }
 {
     if key.len() != (e.width + 7) / 8 {
@@ -320,7 +320,7 @@ pub fn write_key(offsets: &[usize], m: usize, out: &mut [u8]) -> usize
 
 // No offset on any level.
 pub fn no_offsets() -> [usize; Encoding::MAX_WIDTH]
-    ensures { λ r. ⌜ r ≡ replicate 256 0 ⌝ }
+    ensures { λ r. ⌜ r ≡ replicate maxWidth 0 ⌝ }
 {
     [0usize; Encoding::MAX_WIDTH]
 }

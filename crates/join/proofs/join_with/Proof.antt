@@ -10,7 +10,7 @@ use Rattle.encoding.proofs.Opened.{opens-room}
 use Rattle.build.specs.Writing.{writtenOutcome}
 use Rattle.join.specs.declared.Pair.the-variants.{Opened}
 use Rattle.join.specs.Joining.{Both, Joined, joinOf}
-use Rattle.join.proofs.Joins.{first-holds, second-holds, joined, joined-call}
+use Rattle.join.proofs.Joins.{opens-short, first-holds, second-holds, joined, joined-call}
 use borrow.Author.Needs.{needs}
 use Rattle.join.proofs.join_with.Statement.{statement}
 use Rattle.join.proofs.join_with.Tie as tie
@@ -21,7 +21,7 @@ module _ (k : tie.After-known-told2) where
   opening = k .before .before .before
 
   abbrev start : tie.Start
-  start = opening .before .before .before .before .before .before
+  start = opening .before .before .before .before .before .before .before
 
   abbrev a : Bytes
   a = now (start .args .a)
@@ -73,22 +73,22 @@ part-joined-edges-end-2 c = search needs
 
 joined-edges-requires : tie.Need-joined-edges-requires
 joined-edges-requires c κs =
-    let k = c .before .before .before in
+    let k = c .before .before .before .before in
     let o = both k in (
       first-holds (start k .args .kind) (a k) (b k) (e k) (f k) (o .0) (o .1) (o .2),
       (
         second-holds (start k .args .kind) (a k) (b k) (e k) (f k) (o .0) (o .1) (o .2),
-        omega (arith, start k .pre .0, opens-room (a k) (e k) (o .0) .few, opens-room (b k) (f k) (o .1) .few),
+        start k .pre .0 .enough (e k .bits) (f k .bits) (opens-short (a k) (e k) (o .0)) (opens-room (a k) (e k) (o .0) .few) (opens-short (b k) (f k) (o .1)) (opens-room (b k) (f k) (o .1) .few),
       ),
     )
 
 -- the edges of what is asked for
 module _ (j : tie.After-joined-edges) where
   abbrev told : tie.After-known-told2
-  told = j .before .before .before .before
+  told = j .before .before .before .before .before
 
   abbrev edges : Bytes
-  edges = j .joined-edges .last .1 .1 .1 .1 .1 .1 .0
+  edges = j .joined-edges .last .1 .1 .1 .1 .1 .1 .1 .0
 
   ready : Joined (e told .width) (j .joined-edges .result) edges
   ready =
@@ -97,15 +97,15 @@ module _ (j : tie.After-joined-edges) where
 
 write-joined-requires : tie.Need-write-joined-requires
 write-joined-requires c κs =
-    let j = c .before .before .before .before in
-    let k = j .before .before .before .before in
-    (ready j, start k .pre .1, omega (arith, start k .pre .0, j .joined-edges .kept .1 .1 .1 .1 .1 .1 .0))
+    let j = c .before .before .before .before .before .before in
+    let k = told j in
+    (ready j, start k .pre .1, omega (arith, start k .pre .0 .bounded, j .joined-edges .kept .1 .1 .1 .1 .1 .1 .1 .0))
 
 returns : tie.Need-returns
 unfolding writtenOutcome refusal
 returns c =
     let o = c .before .before .before in
-    let s = o .before .before .before .before .before .before in
+    let s = o .before .before .before .before .before .before .before in
     sym (subst (Both (now (s .args .a)) (now (s .args .b))) (c .before .pair .given .1) (o .open-both .ensures) (joinOf (s .args .kind)) (now (s .args .out)))
 
 same-length : tie.Need-same-length
@@ -116,10 +116,13 @@ same-length-2 c = search needs
 
 returns-2 : tie.Need-returns-2
 returns-2 c =
-    let j = c .before .before .before .before .before .before .before in
+    let j = c .before .before .before .before .before .before .before .before .before in
     let k = told j in
     c .before .before .write-joined .ensures
     ∙ joined-call (start k .args .kind) (a k) (b k) (e k) (f k) (both k .0) (both k .1) (both k .2) (now (start k .args .edges)) (edges j) (j .joined-edges .result) (j .joined-edges .ensures) (now (start k .args .out))
+
+same-length-3 : tie.Need-same-length-3
+same-length-3 c = search needs
 
 pub join-with-spec : {M : Type 1} → statement M
 join-with-spec =
@@ -139,4 +142,5 @@ join-with-spec =
     returns
     same-length
     same-length-2
+    same-length-3
     returns-2)

@@ -11,46 +11,54 @@ use Rattle.join.proofs.joined_edges.Tie as tie
 enum-told : tie.Need-enum-told
 enum-told c = search needs
 
-union-edges-requires : tie.Need-union-edges-requires
-union-edges-requires c κs = search needs
+merge-requires : tie.Need-merge-requires
+merge-requires c κs = search needs
 
 enum-told-2 : tie.Need-enum-told-2
 enum-told-2 c = search needs
 
-difference-edges-requires : tie.Need-difference-edges-requires
-difference-edges-requires c κs = search needs
+subtract-requires : tie.Need-subtract-requires
+subtract-requires c κs = search needs
 
 same-length : tie.Need-same-length
 same-length c = search needs
 
-returns : tie.Need-returns
-returns c =
-    let u = c .before .before in
-    let s = u .before .before .before .before .before .before .before in
-    let e = held (s .args .m) (s .args .ba) (now (s .args .a)) in
-    let f = held (s .args .m) (s .args .bb) (now (s .args .b)) in
-    subst (λ k. Written (edgesOf (joinOf k e f)) (now (s .args .out)) (u .union-edges .last .1 .1 .1 .1 .1 .0) (u .union-edges .result)) (sym (u .before .before .enum-told .given .1)) (u .union-edges .ensures)
-
 same-length-2 : tie.Need-same-length-2
 same-length-2 c = search needs
 
-returns-2 : tie.Need-returns-2
-returns-2 c =
-    let u = c .before .before in
-    let s = u .before .before .before .before .before .before .before in
+returns : tie.Need-returns
+returns c =
+    let u = c .before .before .before .before in
+    let s = u .before .before .before .before .before .before .before .before .before in
     let e = held (s .args .m) (s .args .ba) (now (s .args .a)) in
     let f = held (s .args .m) (s .args .bb) (now (s .args .b)) in
-    subst (λ k. Written (edgesOf (joinOf k e f)) (now (s .args .out)) (u .difference-edges .last .1 .1 .1 .1 .1 .0) (u .difference-edges .result)) (sym (u .before .before .enum-told2 .given .1)) (u .difference-edges .ensures .0)
+    subst (λ k. Written (edgesOf (joinOf k e f)) (now (s .args .out)) (u .merge .last .1 .1 .1 .1 .1 .1 .0) (u .merge .result .edges)) (sym (u .before .before .before .enum-told .given .1)) (u .merge .ensures .edges)
+
+same-length-3 : tie.Need-same-length-3
+same-length-3 c = search needs
+
+same-length-4 : tie.Need-same-length-4
+same-length-4 c = search needs
+
+returns-2 : tie.Need-returns-2
+returns-2 c =
+    let u = c .before .before .before .before in
+    let s = u .before .before .before .before .before .before .before .before .before in
+    let e = held (s .args .m) (s .args .ba) (now (s .args .a)) in
+    let f = held (s .args .m) (s .args .bb) (now (s .args .b)) in
+    subst (λ k. Written (edgesOf (joinOf k e f)) (now (s .args .out)) (u .subtract .last .1 .1 .1 .1 .1 .1 .0) (u .subtract .result)) (sym (u .before .before .before .enum-told2 .given .1)) (u .subtract .ensures .0)
 
 pub joined-edges-spec : {M : Type 1} → statement M
 joined-edges-spec =
     tie.close
     (tie.spec
     enum-told
-    union-edges-requires
+    merge-requires
     enum-told-2
-    difference-edges-requires
+    subtract-requires
     same-length
-    returns
     same-length-2
+    returns
+    same-length-3
+    same-length-4
     returns-2)
