@@ -308,20 +308,6 @@ fn step_before(l: &[u8], t: &[u16], e: Encoding, c: Cursor, out: &mut [u8]) -> S
     }
 }
 
-// Whether a cursor is before, after or at a member, with every other offset 0.
-fn is_right(l: &[u8], t: &[u16], e: Encoding, c: Cursor) -> bool
-    requires { ⌜ Opens (now l) e × Tallies (now t) ⌝ }
-    ensures { λ r. ⌜ r ≡ spec.isCursorOf (entryIn (now (l .entry))) (cursorOf c) ⌝ }
-{
-    let path = path_of(c);
-    let state = c.state;
-    match state {
-        State::At => is_cursor(l, t, e, &path),
-        State::Before => zeros_from(&path, 0),
-        State::After => zeros_from(&path, 0),
-    }
-}
-
 // From a right cursor, as every step leaves it: only 14 is tested, and only the levels that change ask for edges.
 pub fn step_right(l: &[u8], t: &[u16], e: Encoding, c: Cursor, out: &mut [u8]) -> Stepped
     requires { ⌜ Opens (now l) e × Tallies (now t) × (spec.isCursorOf (entryIn (now l)) (cursorOf c) ≡ true) ⌝ }
@@ -339,13 +325,32 @@ pub fn step_right(l: &[u8], t: &[u16], e: Encoding, c: Cursor, out: &mut [u8]) -
     }
 }
 
-// From any cursor: 15, then 14 unless it goes to after.
+// From any cursor: 15, then 14 unless it goes to after. (Not by way of `step_right`: the offsets are taken out once.)
 pub fn advanced(l: &[u8], t: &[u16], e: Encoding, c: Cursor, out: &mut [u8]) -> Stepped
     requires { ⌜ Opens (now l) e × Tallies (now t) ⌝ }
     ensures { λ r. ⌜ steppedOf r (now (out .exit)) ≡ spec.advance (entryIn (now (l .entry))) (cursorOf c) (now (out .entry)) ⌝ }
 {
-    if is_right(l, t, e, c) {
-        return step_right(l, t, e, c, out);
+    let path = path_of(c);
+    let state = c.state;
+    match state {
+        State::At => {
+            if is_cursor(l, t, e, &path) {
+                return step_at(l, t, e, c, path, out);
+            }
+        }
+        State::Before => {
+            if zeros_from(&path, 0) {
+                return step_before(l, t, e, c, out);
+            }
+        }
+        State::After => {
+            if zeros_from(&path, 0) {
+                return Stepped {
+                    cursor: c,
+                    answer: Step::Wrote(0),
+                };
+            }
+        }
     }
     Stepped {
         cursor: c,
