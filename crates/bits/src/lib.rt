@@ -33,7 +33,7 @@ pub fn number2(l: &[u8], at: usize) -> usize
     (l[at] as usize) * 256 + (l[at + 1] as usize)
 }
 
-// In four.
+// In four: the first two weigh 2^16.
 pub fn number4(l: &[u8], at: usize) -> usize
     requires { ⌜ at + 4 ≤ length (now l) ⌝ }
     ensures { λ r. ⌜ (r ≡ numberAt 4 (now (l .entry)) at) × (r < 2 ^ 32) ⌝ }
@@ -41,7 +41,7 @@ pub fn number4(l: &[u8], at: usize) -> usize
     number2(l, at) * 65_536 + number2(l, at + 2)
 }
 
-// In eight.
+// In eight: the first four weigh 2^32.
 pub fn number8(l: &[u8], at: usize) -> usize
     requires { ⌜ at + 8 ≤ length (now l) ⌝ }
     ensures { λ r. ⌜ r ≡ numberAt 8 (now (l .entry)) at ⌝ }

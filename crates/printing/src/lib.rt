@@ -62,7 +62,7 @@ fn put_key(text: &mut [u8], at: usize, key: &[u8]) -> usize {
 }
 
 // ---- Lines
-// The numbers of an encoding: width, members and edge bits.
+// The numbers of an encoding: width, members and edge bits, in the words that document 01 prints.
 pub fn put_numbers(text: &mut [u8], at: usize, e: Encoding) -> usize {
     let mut end = put_text(text, at, b"width ");
     end = put_number(text, end, e.width);

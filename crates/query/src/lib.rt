@@ -289,9 +289,9 @@ fn key_bit(offsets: &[usize], m: usize, q: usize) -> usize
     0
 }
 
-// Byte j of the key of a path.
+// Byte j of the key of a path; a key has fewer bytes than it may have bits.
 fn key_byte(offsets: &[usize], m: usize, j: usize) -> u8
-    requires { ⌜ (m ≤ length (now offsets)) × (j < 65536) ⌝ }
+    requires { ⌜ (m ≤ length (now offsets)) × (j < maxWidth) ⌝ }
     ensures { λ r. ⌜ r ≡ byteOf (pathKey (now (offsets .entry)) m) j ⌝ }
 {
     let mut v: usize = 0;
