@@ -13,11 +13,13 @@ test: format rust
 format:
 	rt fmt --check
 
-# the compiled library against plain sets
-rust: target/staticlib/libcapi.a
+# the compiled library and the printing program against plain sets
+rust: target/staticlib/libcapi.a target/bin/show
 	cd rust && cargo test --offline --release
 
-target/staticlib/libcapi.a: $(shell find crates -name '*.rt' -o -name '*.antt') crates.txt
+# what the library rests on is proved first: rt check takes two crates at a time, rt staticlib one
+target/staticlib/libcapi.a target/bin/show &: $(shell find crates -name '*.rt' -o -name '*.antt') crates.txt
+	rt check pack join show
 	rt staticlib capi
 
 # the same for longer, with more and larger cases

@@ -19,7 +19,7 @@ fn main() {
         return;
     }
     println!(
-        "Times in ns: pack, union and difference for each key of either operand, iteration for each key, the others for each call."
+        "Times in ns: pack, union and difference for each key of either operand, step and iteration for each key, the others for each call."
     );
     println!("Memory in bytes for each key. Ratio: library to plain Rust.");
     // widths up to the limit of 524,280 edge bits
@@ -328,7 +328,7 @@ fn table<const T: usize>(keys: Vec<[u8; T]>, shape: &'static str) -> Table {
         })),
         [None; 3],
     );
-    let walked = compare!(
+    let stepped = compare!(
         n,
         || {
             let mut cursor = loes::Cursor::new();
@@ -339,6 +339,22 @@ fn table<const T: usize>(keys: Vec<[u8; T]>, shape: &'static str) -> Table {
         || {
             let mut cursor = plain_rust::Cursor::before();
             while plain_rust::advance(&bytes, &opened, &mut cursor, &mut key).unwrap() > 0 {
+                black_box(&key);
+            }
+        }
+    );
+    row("step", stepped, [None; 3]);
+    let walked = compare!(
+        n,
+        || {
+            let mut keys = encoding.keys();
+            while keys.next_into(&mut buffer).unwrap() > 0 {
+                black_box(&buffer);
+            }
+        },
+        || {
+            let mut cursor = plain_rust::Cursor::before();
+            while plain_rust::next(&bytes, &opened, &mut cursor, &mut key).unwrap() > 0 {
                 black_box(&key);
             }
         }

@@ -312,7 +312,6 @@ fn first_edge(edges: &[u8], record: usize) -> usize {
 }
 
 pub fn advance(l: &[u8], e: &Opened, cursor: &mut Cursor, out: &mut [u8]) -> Result<usize, u64> {
-    let edges = &l[e.edges..];
     let m = e.width;
     let right = match cursor.state {
         1 => is_path(l, e, &cursor.offsets[..m]) && cursor.offsets[m..].iter().all(|o| *o == 0),
@@ -322,6 +321,13 @@ pub fn advance(l: &[u8], e: &Opened, cursor: &mut Cursor, out: &mut [u8]) -> Res
     if !right {
         return Err(15);
     }
+    next(l, e, cursor, out)
+}
+
+/// The step of a right cursor.
+pub fn next(l: &[u8], e: &Opened, cursor: &mut Cursor, out: &mut [u8]) -> Result<usize, u64> {
+    let edges = &l[e.edges..];
+    let m = e.width;
     // the lowest level that turns, where the path is at a member
     let turn = match cursor.state {
         0 if e.bits > 0 => Some(0),

@@ -5,7 +5,9 @@
 //! - a slice's pointer is never null and its length is right; output slices are borrowed mutably, so they share no byte with
 //!   anything else that is lent;
 //! - the calls behind the check require what `loes_open` answered for the same bytes: a `Checked` is made by `open` only
-//!   and borrows those bytes, so they cannot change while it lives.
+//!   and borrows those bytes, so they cannot change while it lives;
+//! - the step that does not test its cursor requires a right one: a `Walk` starts before the first member, and only its own
+//!   steps change its cursor.
 
 /// `kind`: 0 value, 1 absent or none, 2 refused.
 #[repr(C)]
@@ -53,6 +55,7 @@ extern "C" {
     fn loes_opened_key_at(e: Opened, l: *const u8, n: usize, index: u64, out: *mut u8, m: usize) -> Answer;
     fn loes_opened_rank(e: Opened, l: *const u8, n: usize, offset: u64) -> Answer;
     fn loes_opened_advance(e: Opened, l: *const u8, n: usize, state: u64, offsets: *mut u64, count: usize, out: *mut u8, m: usize) -> Step;
+    fn loes_opened_next(e: Opened, l: *const u8, n: usize, state: u64, offsets: *mut u64, count: usize, out: *mut u8, m: usize) -> Step;
 }
 
 /// Bytes that have been opened, with what was answered for them.
@@ -143,5 +146,39 @@ impl<'a> Checked<'a> {
                 self.opened, self.bytes.as_ptr(), self.bytes.len(), state, offsets.as_mut_ptr(), offsets.len(), out.as_mut_ptr(), out.len(),
             )
         }
+    }
+
+    pub fn walk(&self) -> Walk<'a> {
+        Walk { checked: *self, state: 0, offsets: [0; 256] }
+    }
+}
+
+/// A walk over checked bytes from before the first member, with a cursor of its own.
+#[derive(Clone)]
+pub struct Walk<'a> {
+    checked: Checked<'a>,
+    state: u64,
+    offsets: [u64; 256],
+}
+
+impl Walk<'_> {
+    pub fn state(&self) -> u64 {
+        self.state
+    }
+
+    pub fn offsets(&self) -> &[u64; 256] {
+        &self.offsets
+    }
+
+    #[rustfmt::skip]
+    pub fn next(&mut self, out: &mut [u8]) -> Answer {
+        let Checked { opened, bytes } = self.checked;
+        let step = unsafe {
+            loes_opened_next(
+                opened, bytes.as_ptr(), bytes.len(), self.state, self.offsets.as_mut_ptr(), self.offsets.len(), out.as_mut_ptr(), out.len(),
+            )
+        };
+        self.state = step.state;
+        Answer { kind: step.kind, value: step.value }
     }
 }

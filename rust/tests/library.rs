@@ -37,6 +37,7 @@ fn stepped(step: ffi::Step) -> (Answer, u64) {
 /// Encodings are built, opened and asked through the Rust interface; cursors in numbers, so that any can be given.
 impl Subject for Library {
     type Opened<'a> = (ffi::Checked<'a>, Encoding<'a>);
+    type Walk<'a> = ffi::Walk<'a>;
 
     fn pack(width: u64, batch: &[u8], out: &mut [u8]) -> Answer {
         length(loes::pack(width, batch, out))
@@ -81,6 +82,18 @@ impl Subject for Library {
 
     fn advance_opened((checked, _): &Self::Opened<'_>, state: u64, offsets: &mut [u64], out: &mut [u8]) -> (Answer, u64) {
         stepped(checked.advance(state, offsets, out))
+    }
+
+    fn walk<'a>((checked, _): &Self::Opened<'a>) -> ffi::Walk<'a> {
+        checked.walk()
+    }
+
+    fn next(walk: &mut ffi::Walk<'_>, out: &mut [u8]) -> Answer {
+        answer(walk.next(out))
+    }
+
+    fn place(walk: &ffi::Walk<'_>) -> (u64, Vec<u64>) {
+        (walk.state(), walk.offsets().to_vec())
     }
 }
 

@@ -17,6 +17,7 @@ fn length(answer: Result<usize, u64>) -> Answer {
 
 impl Subject for PlainRust {
     type Opened<'a> = (&'a [u8], Opened);
+    type Walk<'a> = ((&'a [u8], Opened), Cursor);
 
     fn pack(width: u64, batch: &[u8], out: &mut [u8]) -> Answer {
         length(plain_rust::pack(width, batch, out))
@@ -63,6 +64,18 @@ impl Subject for PlainRust {
         let answer = plain_rust::advance(l, e, &mut cursor, out);
         offsets.copy_from_slice(&cursor.offsets);
         (length(answer), cursor.state)
+    }
+
+    fn walk<'a>(opened: &Self::Opened<'a>) -> Self::Walk<'a> {
+        (opened.clone(), Cursor::before())
+    }
+
+    fn next(((l, e), cursor): &mut Self::Walk<'_>, out: &mut [u8]) -> Answer {
+        length(plain_rust::next(l, e, cursor, out))
+    }
+
+    fn place((_, cursor): &Self::Walk<'_>) -> (u64, Vec<u64>) {
+        (cursor.state, cursor.offsets.to_vec())
     }
 }
 

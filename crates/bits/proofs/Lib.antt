@@ -5,3 +5,4 @@ pub mod Counts
 pub mod Tally
 pub mod Part
 pub mod Packed
+pub mod Unused

@@ -2,7 +2,10 @@
 ghost use Prim.Native.Nat.{_+_, _-_, _*_, _/_, _^_, _<_, _≤_};
 ghost use mathlib.Core.Path.{_≡_};
 ghost use lib.ListN.{length, drop};
+ghost use Rattle.loes.specs.Limits.{maxWidth};
 ghost use Rattle.loes.specs.Bytes.{bitAt, numberAt};
+ghost use Rattle.loes.specs.Entry.{keyBytes};
+ghost use Rattle.loes.specs.Model.{unusedSet};
 ghost use Rattle.bits.specs.Tables.{Places, Tallies, tally};
 
 pub mod tables;
@@ -23,6 +26,15 @@ pub fn bit_at(l: &[u8], o: usize) -> bool
     let at = o / 8;
     let x = l[at];
     (x >> (7 - o % 8)) % 2 == 1
+}
+
+// Whether a bit behind the m bits of a key of t bytes is set: those bits are the low ones of its last byte.
+pub fn unused_set(key: &[u8], t: usize, m: usize) -> bool
+    requires { ⌜ ((0 < m) × (m ≤ maxWidth)) × ((t ≡ keyBytes m) × (t ≤ length (now key))) ⌝ }
+    ensures { λ r. ⌜ r ≡ unusedSet m (now (key .entry)) ⌝ }
+{
+    let x = key[t - 1];
+    x % (1u8 << (8 * t - m)) != 0
 }
 
 // The number in two bytes at a place, most significant byte first.

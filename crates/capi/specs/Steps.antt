@@ -1,10 +1,8 @@
 -- A cursor and its step as C has them: a state's number and a list of offsets.
 use Prim.Native.Nat.{ℕ}
-use mathlib.Core.Bool.{Bool, _&&_, cond}
+use mathlib.Core.Bool.{Bool, cond}
 use mathlib.Core.List.{List}
-use lib.ListN.{length}
 use lib.Dec.{eqb, ltb}
-use Rattle.loes.specs.Limits.{maxWidth}
 use Rattle.loes.specs.Bytes.{Bytes}
 use Rattle.loes.specs.Refusals.{badCursor}
 use Rattle.loes.specs.Read.{Reading, rejected, opened, read}
@@ -34,9 +32,9 @@ stateIn s = cond (eqb s 0) before (cond (eqb s 1) at after)
 abbrev pub cursorIn : ℕ → List ℕ → Cursor
 cursorIn s os = record { state = stateIn s; offsets = os }
 
--- a number of a state, and an offset for each level that there can be
-unfoldable pub isCoded : ℕ → List ℕ → Bool
-isCoded s os = ltb s 3 && eqb (length os) maxWidth
+-- a number of a state
+unfoldable pub isState : ℕ → Bool
+isState s = ltb s 3
 
 -- an answer, and the number of the state after it
 abbrev pub stepCode : Answer → ℕ → Step
@@ -49,10 +47,10 @@ walkedBy a = walks (stepCode (a .answer) (stateCode (a .cursor .state))) (a .cur
 abbrev pub keeps : ℕ → ℕ → List ℕ → Bytes → Walked
 keeps k s os out = walks (stepCode (refused k) s) os out
 
--- the encoding's refusals, then 15 for what is no cursor, then the model's step
+-- the encoding's refusals, then 15 for what is no state, then the model's step
 unfoldable pub stepAfter : Reading → ℕ → List ℕ → Bytes → Walked
 stepAfter (rejected k) s os out = keeps k s os out
-stepAfter (opened e) s os out = cond (isCoded s os) (walkedBy (advance e (cursorIn s os) out)) (keeps badCursor s os out)
+stepAfter (opened e) s os out = cond (isState s) (walkedBy (advance e (cursorIn s os) out)) (keeps badCursor s os out)
 
 unfoldable pub stepCall : Bytes → ℕ → List ℕ → Bytes → Walked
 stepCall l s os out = stepAfter (read l) s os out

@@ -1,11 +1,11 @@
 // The C interface: numbers and byte strings in, small structs out. The target's uint64_t and size_t are usize.
 ghost use Prim.Native.Nat.{_≤_};
 ghost use mathlib.Core.Path.{_≡_};
+ghost use mathlib.Core.Bool.{true};
 ghost use mathlib.Core.List.{[], _∷_};
-ghost use lib.ListN.{length};
-ghost use Rattle.loes.specs.Limits.{maxWidth};
 ghost use Rattle.loes.specs.Bytes.{Bytes};
 ghost use Rattle.loes.specs.Read.{entryIn, opened};
+ghost use Rattle.loes.specs.Cursor.{isCursorOf};
 ghost use Rattle.loes.specs.Model as model;
 ghost use Rattle.loes.specs.Calls.{openCall, packCall, unionCall, differenceCall, containsCall, indexOfCall, lowerBoundCall, keyAtCall, rankCall};
 ghost use Rattle.bits.specs.Tables.{Tallies};
@@ -15,11 +15,11 @@ ghost use Rattle.query.specs.Answers as query;
 ghost use Rattle.cursor.specs.Steps as cursor;
 ghost use Rattle.build.specs.Writing as build;
 ghost use Rattle.capi.specs.Coded.{valueKind, absentKind, says, codeOf, gives, coded, openedOf, noOpening, openingOf, encodingOf};
-ghost use Rattle.capi.specs.Steps.{walks, stateCode, stateIn, cursorIn, stepCode, stepAfter, stepCall};
+ghost use Rattle.capi.specs.Steps.{walks, stateCode, stateIn, cursorIn, isState, stepCode, stepAfter, stepCall};
 use bits::EdgeOffset;
 use bits::MemberIndex;
-use cursor::Cursor;
 use cursor::State;
+use cursor::Walked;
 use encoding::Checked;
 use encoding::Encoding;
 use encoding::Ranked;
@@ -353,38 +353,6 @@ fn state_code(s: State) -> usize
     }
 }
 
-// A cursor from its state's number and its offsets.
-fn cursor_from(s: usize, offsets: &[usize]) -> Cursor
-    requires { ⌜ (s ≤ 2) × (length (now offsets) ≡ maxWidth) ⌝ }
-    ensures { λ r. ⌜ cursor.cursorOf r ≡ cursorIn s (now (offsets .entry)) ⌝ }
-{
-    let state = state_of(s);
-    let mut path = [EdgeOffset(0); Encoding::MAX_WIDTH];
-    let mut d: usize = 0;
-    while d < Encoding::MAX_WIDTH {
-        path[d] = EdgeOffset(offsets[d]);
-        d += 1;
-    }
-    Cursor {
-        state,
-        offsets: path,
-    }
-}
-
-// A cursor's offsets, written back.
-fn put_offsets(c: Cursor, offsets: &mut [usize])
-    requires { ⌜ length (now offsets) ≡ maxWidth ⌝ }
-    ensures { λ _. ⌜ now (offsets .exit) ≡ cursor.numbers (c .offsets) ⌝ }
-{
-    let path = c.offsets;
-    let mut d: usize = 0;
-    while d < Encoding::MAX_WIDTH {
-        let o = path[d];
-        offsets[d] = o.0;
-        d += 1;
-    }
-}
-
 fn refused_step(k: u8, s: usize) -> Step
     ensures { λ r. ⌜ r ≡ stepCode (model.refused k) s ⌝ }
 {
@@ -395,20 +363,23 @@ fn refused_step(k: u8, s: usize) -> Step
     }
 }
 
-fn step_coded(a: cursor::Step, s: usize) -> Step
-    ensures { λ r. ⌜ r ≡ stepCode (cursor.stepAnswer a) s ⌝ }
+fn step_coded(w: Walked) -> Step
+    ensures { λ r. ⌜ r ≡ stepCode (cursor.stepAnswer (w .answer)) (stateCode (cursor.stateOf (w .state))) ⌝ }
 {
-    match a {
-        cursor::Step::Refused(k) => refused_step(k, s),
+    let to = w.state;
+    let state = state_code(to);
+    let answer = w.answer;
+    match answer {
+        cursor::Step::Refused(k) => refused_step(k, state),
         cursor::Step::Wrote(n) => Step {
             kind: VALUE,
             value: n,
-            state: s,
+            state,
         },
     }
 }
 
-// A step with the cursor in its parts: 15 for what is no cursor, then as the cursor's step says.
+// A step with the cursor in its parts: 15 for what is no state, then as the cursor's step says.
 fn step_in(
     l: &[u8],
     t: &[u16],
@@ -423,16 +394,8 @@ fn step_in(
     if s > AFTER {
         return refused_step(BAD_CURSOR, s);
     }
-    if offsets.len() != Encoding::MAX_WIDTH {
-        return refused_step(BAD_CURSOR, s);
-    }
-    let c = cursor_from(s, offsets);
-    let stepped = cursor::advanced(l, t, e, c, out);
-    let next = stepped.cursor;
-    put_offsets(next, offsets);
-    let answer = stepped.answer;
-    let state = next.state;
-    step_coded(answer, state_code(state))
+    let from = state_of(s);
+    step_coded(cursor::step_any(l, t, e, from, offsets, out))
 }
 
 // Moves a cursor on to the next member and writes its key to the front of a buffer.
@@ -465,4 +428,20 @@ pub extern "C" fn loes_opened_advance(
 {
     let t = bits::tallies();
     step_in(l, &t, encoding_of(e), state, offsets, out)
+}
+
+// The same for a cursor that is right, as a step that was not refused 15 leaves it: 15 is not tested.
+#[no_mangle]
+pub extern "C" fn loes_opened_next(
+    e: Opened,
+    l: &[u8],
+    state: usize,
+    offsets: &mut [usize],
+    out: &mut [u8],
+) -> Step
+    requires { ⌜ Opens (now l) (encodingOf e) × (isState state ≡ true) × (isCursorOf (entryIn (now l)) (cursorIn state (now offsets)) ≡ true) ⌝ }
+    ensures { λ r. ⌜ walks r (now (offsets .exit)) (now (out .exit)) ≡ stepCall (now (l .entry)) state (now (offsets .entry)) (now (out .entry)) ⌝ }
+{
+    let from = state_of(state);
+    step_coded(cursor::step_right(l, encoding_of(e), from, offsets, out))
 }

@@ -13,7 +13,7 @@ use Rattle.loes.specs.Bytes.{odd, sameNumbers}
 use Rattle.loes.specs.Keys.{Key, any}
 use Rattle.loes.specs.Edges.{onesBefore}
 use Rattle.loes.specs.Entry.{Entry, keysOf, edgesOf, Valid}
-use Rattle.loes.specs.Cursor.{at, allZero, isCursorOf, pathOf}
+use Rattle.loes.specs.Cursor.{at, allZero, offsetsRight, pathOf}
 use Rattle.loes.proofs.Bits.{odd-bit}
 use Rattle.loes.proofs.Tests.{lt-no, yes-eq, both}
 use Rattle.query.specs.Paths.{recordAt, Leading}
@@ -112,12 +112,12 @@ module _ (e : Entry) (os : List ℕ) (long : e .width ≤ length os) (r d : ℕ)
   check-all v z = sym (lead-right e os (v .positive) long (rw z at (c .leads)))
 
 -- ---- is_cursor
-pub cursor-right : (e : Entry) (os : List ℕ) (m : ℕ) (z : Bool) → m ≡ e .width → true ≡ hasPath e os → z ≡ allZero (drop m os) → z ≡ isCursorOf e (record { state = at; offsets = os })
-unfolding isCursorOf hasPath
+pub cursor-right : (e : Entry) (os : List ℕ) (m : ℕ) (z : Bool) → m ≡ e .width → true ≡ hasPath e os → z ≡ allZero (drop m os) → z ≡ offsetsRight e (record { state = at; offsets = os })
+unfolding offsetsRight hasPath
 cursor-right e os m z em h q = rw (← h) (q ∙ ap (λ x. allZero (drop x os)) em)
 
-pub cursor-wrong : (e : Entry) (os : List ℕ) → false ≡ hasPath e os → false ≡ isCursorOf e (record { state = at; offsets = os })
-unfolding isCursorOf hasPath
+pub cursor-wrong : (e : Entry) (os : List ℕ) → false ≡ hasPath e os → false ≡ offsetsRight e (record { state = at; offsets = os })
+unfolding offsetsRight hasPath
 cursor-wrong e os h = rw (← h)
 
 -- ---- turn_level

@@ -1,23 +1,28 @@
 -- What a step does, from each kind of cursor.
 use mathlib.Core.Path.{_≡_, refl, sym, ap, ap₂, _∙_}
 use Prim.Native.Nat.{ℕ, zero, suc, _+_, _-_, _≤_, _<_}
-use mathlib.Core.Bool.{true, false}
+use mathlib.Core.Bool.{Bool, true, false}
 use mathlib.Core.List.{List, [], _∷_, _++_, map, map-append}
 use native.Mathlib.Omega.{arith}
 use lib.ListN.{length, take, drop, getD, replicate}
 use lib.Seq.{drop-append-add}
+use borrow.Author.Tests.{ne-eqb}
+use Rattle.loes.specs.Limits.{maxWidth}
 use Rattle.loes.specs.Bytes.{Bytes, odd, tabulate, packBits, front}
 use Rattle.loes.specs.Keys.{smaller}
 use Rattle.loes.specs.Entry.{Entry, keyBytes, keysOf, count, edgesOf, edgeCount, Valid}
 use Rattle.loes.specs.Refusals.{shortBuffer, badCursor, test, firstOf}
-use Rattle.loes.specs.Model.{refused, wroteKey}
-use Rattle.loes.specs.Cursor.{Cursor, before, at, after, allZero, padded, pathOf, isCursorOf, keyOfPath, nextIndex, hasNext, stays, staysOr, advanceTests, advance}
+use Rattle.loes.specs.Model.{Answer, refused, wroteKey}
+use Rattle.loes.specs.Cursor as spec
+use Rattle.loes.specs.Cursor.{Cursor, Advanced, before, at, after, padded, pathOf, offsetsRight, isCursorOf, keyOfPath, nextIndex, hasNext, stays, staysOr, advanceTests, advance}
 use Rattle.loes.proofs.Tests.{lt-yes, both}
 use Rattle.loes.proofs.Tree.{length-members}
-use Rattle.loes.proofs.Cursors.{noOffsets, cursorAt, right-none, right-is, right-bare, advance-on, advance-out}
+use Rattle.loes.proofs.Cursors.{noOffsets, cursorAt, right-none, right-parts, right-is, right-after, advance-on, advance-out}
 use Rattle.query.specs.Paths.{keyOf, pathKey}
 use Rattle.query.proofs.Descent.{inhabited-none, count-none}
 use Rattle.query.proofs.Ascent.{path-size, key-back}
+use Rattle.cursor.specs.declared.State.{State}
+use Rattle.cursor.specs.Steps.{stateOf, at as place}
 use Rattle.cursor.specs.Moves.{TurnsAt, Moved, Movable, indexIn, hasPath}
 use Rattle.cursor.proofs.Right.{take-tabulate}
 use Rattle.cursor.proofs.Onward.{below-edges, next-none, next-some, movable, next-path}
@@ -67,31 +72,37 @@ unfolding noOffsets padded
 step-out e p k out r n q = ap (λ x. record { answer = wroteKey 0; buffer = out; cursor = x }) q ∙ sym (advance-out e p out r n)
 
 -- ---- To member j, whose path goes in front of another
-step-on : (e : Entry) → Valid e → (p k : Cursor) (y os os' : List ℕ) (out out' : Bytes) (j m n : ℕ) → isCursorOf e p ≡ true → nextIndex e p ≡ j → j < count e
-    → os ≡ padded y → length y ≤ e .width → os' ≡ front (pathOf e (getD (keysOf e) j [])) os → k ≡ record { state = at; offsets = os' }
+step-on : (e : Entry) → Valid e → (p : Cursor) (y os os' : List ℕ) (out out' : Bytes) (j m n : ℕ) → isCursorOf e p ≡ true → nextIndex e p ≡ j → j < count e
+    → os ≡ padded y → length y ≤ e .width → os' ≡ front (pathOf e (getD (keysOf e) j [])) os
     → m ≡ e .width → keyBytes m ≤ length out → n ≡ keyBytes m → out' ≡ front (packBits (pathKey os' m)) out
-    → record { answer = wroteKey n; buffer = out'; cursor = k } ≡ advance e p out
+    → record { answer = wroteKey n; buffer = out'; cursor = record { state = at; offsets = os' } } ≡ advance e p out
 unfolding cursorAt
-step-on e v p k y os os' out out' j m n r i lt ey ly eo ek em room en ew =
+step-on e v p y os os' out out' j m n r i lt ey ly eo em room en ew =
     let x = path-size e v j lt in
     let kb : pathKey os' m ≡ getD (keysOf e) j [] = rw (em, eo) (key-back e v j lt os) in
     let pf : os' ≡ padded (pathOf e (getD (keysOf e) j [])) = eo ∙ ap (front (pathOf e (getD (keysOf e) j []))) ey ∙ pad-front (pathOf e (getD (keysOf e) j [])) y (omega (arith, x)) in
-    ap (λ c. record { answer = wroteKey n; buffer = out'; cursor = c }) (ek ∙ ap (λ l. record { state = at; offsets = l }) pf)
+    ap (λ l. record { answer = wroteKey n; buffer = out'; cursor = record { state = at; offsets = l } }) pf
     ∙ ap₂ (λ b l. record { answer = wroteKey b; buffer = l; cursor = cursorAt e j }) (en ∙ ap keyBytes em) (ew ∙ ap (λ l. front (packBits l) out) kb)
     ∙ sym (advance-on e p out j r i lt (rw (← em) room))
 
 -- ---- From a member's path
-module _ (e : Entry) (v : Valid e) (p : Cursor) (os : List ℕ) (is : p ≡ record { state = at; offsets = os }) (len : length os ≡ 256) (r : isCursorOf e p ≡ true) where
+module _ (e : Entry) (v : Valid e) (os : List ℕ) (r : isCursorOf e (record { state = at; offsets = os }) ≡ true) where
+  abbrev p : Cursor
+  p = record { state = at; offsets = os }
+
+  len : length os ≡ maxWidth
+  len = right-parts e p r .0
+
   pub at-path : hasPath e os ≡ true
-  unfolding isCursorOf hasPath
-  at-path = both _ _ (ap (isCursorOf e) (sym is) ∙ r) .0
+  unfolding offsetsRight hasPath
+  at-path = both _ _ (right-parts e p r .1) .0
 
   pub at-long : e .width ≤ length os
   at-long = omega (arith, v .narrow, len)
 
   next-is : nextIndex e p ≡ suc (indexIn e os)
   unfolding nextIndex keyOfPath indexIn
-  next-is = ap (nextIndex e) is ∙ ap (λ k. suc (smaller k (keysOf e))) (key-map os (e .width) at-long)
+  next-is = ap (λ k. suc (smaller k (keysOf e))) (key-map os (e .width) at-long)
 
   module _ (m b : ℕ) (em : m ≡ e .width) (eb : b ≡ edgeCount e) where
     pub at-below : (m ≤ length os) × ((j : ℕ) → j < m → getD os j 0 < b)
@@ -101,8 +112,10 @@ module _ (e : Entry) (v : Valid e) (p : Cursor) (os : List ℕ) (is : p ≡ reco
       turned : TurnsAt (edgesOf e) (e .width) os t
       turned = rw em at q
 
-      pub at-last : (k : Cursor) (out : Bytes) → t ≡ 0 → k ≡ record { state = after; offsets = replicate 256 0 } → record { answer = wroteKey 0; buffer = out; cursor = k } ≡ advance e p out
-      at-last k out z w = let n = next-none e v os at-long at-path (rw z at turned) in step-out e p k out r (omega (arith, n, next-is)) w
+      pub at-last : (os' : List ℕ) (out : Bytes) → t ≡ 0 → os' ≡ replicate (length os) 0 → record { answer = wroteKey 0; buffer = out; cursor = record { state = after; offsets = os' } } ≡ advance e p out
+      at-last os' out z w =
+          let n = next-none e v os at-long at-path (rw z at turned) in
+          step-out e p _ out r (omega (arith, n, next-is)) (ap (λ x. record { state = after; offsets = x }) (w ∙ ap (λ k. replicate k 0) len))
 
       module _ (pos : 0 < t) where
         pub at-short : (out : Bytes) → length out < keyBytes m → record { answer = refused shortBuffer; buffer = out; cursor = p } ≡ advance e p out
@@ -111,45 +124,65 @@ module _ (e : Entry) (v : Valid e) (p : Cursor) (os : List ℕ) (is : p ≡ reco
         pub at-movable : Movable b m (t - 1) os
         at-movable = rw (em, eb) (movable e v os at-long at-path t turned pos)
 
-        pub at-next : (k : Cursor) (os' : List ℕ) (out out' : Bytes) (n : ℕ) → Moved (edgesOf e) m (t - 1) os os' → k ≡ record { state = at; offsets = os' }
-            → keyBytes m ≤ length out → n ≡ keyBytes m → out' ≡ front (packBits (pathKey os' m)) out → record { answer = wroteKey n; buffer = out'; cursor = k } ≡ advance e p out
+        pub at-next : (os' : List ℕ) (out out' : Bytes) (n : ℕ) → Moved (edgesOf e) m (t - 1) os os' → keyBytes m ≤ length out → n ≡ keyBytes m → out' ≡ front (packBits (pathKey os' m)) out
+            → record { answer = wroteKey n; buffer = out'; cursor = record { state = at; offsets = os' } } ≡ advance e p out
         unfolding cursorAt
-        at-next k os' out out' n w ek =
-            let i = right-is e os len (ap (isCursorOf e) (sym is) ∙ r) in
-            step-on e v p k (pathOf e (getD (keysOf e) (i .0) [])) os os' out out' (suc (indexIn e os)) m n r next-is (next-some e v os at-long at-path t turned pos)
-            (ap (λ c. c .offsets) (i .2)) (omega (arith, path-size e v (i .0) (i .1))) (next-path e v os at-long at-path t turned pos os' (rw em at w)) ek em
+        at-next os' out out' n w =
+            let i = right-is e os r in
+            step-on e v p (pathOf e (getD (keysOf e) (i .0) [])) os os' out out' (suc (indexIn e os)) m n r next-is (next-some e v os at-long at-path t turned pos)
+            (ap (λ c. c .offsets) (i .2)) (omega (arith, path-size e v (i .0) (i .1))) (next-path e v os at-long at-path t turned pos os' (rw em at w)) em
 
 -- ---- From before
-module _ (e : Entry) (v : Valid e) (p : Cursor) (is : p ≡ record { state = before; offsets = replicate 256 0 }) where
-  right : isCursorOf e p ≡ true
+module _ (e : Entry) (v : Valid e) (os : List ℕ) (bare : os ≡ replicate 256 0) where
+  abbrev start : Cursor
+  start = record { state = before; offsets = os }
+
+  right : isCursorOf e start ≡ true
   unfolding noOffsets padded
-  right = ap (isCursorOf e) is ∙ right-none e .0
+  right = ap (λ x. isCursorOf e (record { state = before; offsets = x })) bare ∙ right-none e .0
 
-  next-first : nextIndex e p ≡ 0
+  next-first : nextIndex e start ≡ 0
   unfolding nextIndex
-  next-first = ap (nextIndex e) is
+  next-first = refl
 
-  pub before-none : (k : Cursor) (out : Bytes) → edgeCount e ≡ 0 → k ≡ record { state = after; offsets = replicate 256 0 }
-      → record { answer = wroteKey 0; buffer = out; cursor = k } ≡ advance e p out
-  before-none k out z q = step-out e p k out right (omega (arith, no-member e v z)) q
+  pub before-none : (out : Bytes) → edgeCount e ≡ 0 → record { answer = wroteKey 0; buffer = out; cursor = record { state = after; offsets = os } } ≡ advance e start out
+  before-none out z = step-out e start _ out right (omega (arith, no-member e v z, next-first)) (ap (λ x. record { state = after; offsets = x }) bare)
     where
       no-member : (e : Entry) → Valid e → edgeCount e ≡ 0 → count e ≡ 0
       no-member e v z = unfold count keysOf edgeCount edgesOf in
           length-members (e .width) (e .set) ∙ count-none (e .width) (e .width) (e .set) (inhabited-none (e .width) (e .set) (v .positive) z)
 
   module _ (pos : 0 < edgeCount e) where
-    pub before-short : (out : Bytes) (m : ℕ) → m ≡ e .width → length out < keyBytes m → record { answer = refused shortBuffer; buffer = out; cursor = p } ≡ advance e p out
-    before-short out m em g = step-short e p out 0 right next-first (first-some e v pos) (rw em at g)
+    pub before-short : (out : Bytes) (m : ℕ) → m ≡ e .width → length out < keyBytes m → record { answer = refused shortBuffer; buffer = out; cursor = start } ≡ advance e start out
+    before-short out m em g = step-short e start out 0 right next-first (first-some e v pos) (rw em at g)
 
-    pub before-first : (k : Cursor) (os os' : List ℕ) (out out' : Bytes) (m n : ℕ) → os ≡ replicate 256 0 → os' ≡ front (pathOf e (getD (keysOf e) 0 [])) os
-        → k ≡ record { state = at; offsets = os' } → m ≡ e .width → keyBytes m ≤ length out → n ≡ keyBytes m → out' ≡ front (packBits (pathKey os' m)) out
-        → record { answer = wroteKey n; buffer = out'; cursor = k } ≡ advance e p out
+    pub before-first : (os' : List ℕ) (out out' : Bytes) (m n : ℕ) → os' ≡ front (pathOf e (getD (keysOf e) 0 [])) os → m ≡ e .width → keyBytes m ≤ length out → n ≡ keyBytes m
+        → out' ≡ front (packBits (pathKey os' m)) out → record { answer = wroteKey n; buffer = out'; cursor = record { state = at; offsets = os' } } ≡ advance e start out
     unfolding padded
-    before-first k os os' out out' m n z w = step-on e v p k [] os os' out out' 0 m n right next-first (first-some e v pos) z (omega arith) w
+    before-first os' out out' m n w = step-on e v start [] os os' out out' 0 m n right next-first (first-some e v pos) bare (omega arith) w
 
 -- ---- After stays after
-pub after-stays : (e : Entry) (p : Cursor) (os : List ℕ) (out : Bytes) → p ≡ record { state = after; offsets = os } → length os ≡ 256 → allZero os ≡ true
-    → record { answer = wroteKey 0; buffer = out; cursor = p } ≡ advance e p out
-unfolding isCursorOf nextIndex padded
-after-stays e p os out is n z =
-    step-out e p p out (ap (isCursorOf e) is ∙ z) (omega (arith, ap (nextIndex e) is)) (is ∙ ap (λ x. record { state = after; offsets = x }) (right-bare e os n z))
+pub after-stays : (e : Entry) (os : List ℕ) (out : Bytes) → isCursorOf e (record { state = after; offsets = os }) ≡ true
+    → record { answer = wroteKey 0; buffer = out; cursor = record { state = after; offsets = os } } ≡ advance e (record { state = after; offsets = os }) out
+unfolding nextIndex padded
+after-stays e os out z = step-out e (record { state = after; offsets = os }) _ out z (omega arith) (ap (λ x. record { state = after; offsets = x }) (right-after e os z))
+
+-- ---- From a state that is known
+pub right-in : (e : Entry) (s s' : State) (os : List ℕ) (x : Bool) → length os ≡ maxWidth → s ≡ s' → x ≡ offsetsRight e (place (stateOf s') os) → x ≡ isCursorOf e (place (stateOf s) os)
+unfolding isCursorOf
+right-in e s s' os x n h q = rw (n, h) q
+
+pub right-not : (e : Entry) (s : State) (os : List ℕ) → (length os ≡ maxWidth → ⊥) → false ≡ isCursorOf e (place (stateOf s) os)
+unfolding isCursorOf
+right-not e s os n = rw (ne-eqb (length os) maxWidth n)
+
+pub state-right : (e : Entry) (s s' : State) (os : List ℕ) → s ≡ s' → isCursorOf e (place (stateOf s) os) ≡ true → isCursorOf e (place (stateOf s') os) ≡ true
+state-right e s s' os h q = rw h at q
+
+pub step-in : (e : Entry) (s s' : State) (os : List ℕ) (out : Bytes) (a : Advanced) → s ≡ s' → a ≡ advance e (place (stateOf s') os) out → a ≡ advance e (place (stateOf s) os) out
+step-in e s s' os out a h q = rw h q
+
+-- ---- By value: the cursor of the state and the offsets
+pub by-value : (e : Entry) (s : spec.State) (os os₀ : List ℕ) (a : Answer) (out out' : Bytes) (k k' : Cursor) → k ≡ k' → os ≡ os₀ → record { answer = a; buffer = out'; cursor = k' } ≡ advance e (place s os) out
+    → record { answer = a; buffer = out'; cursor = k } ≡ advance e (place s os₀) out
+by-value e s os os₀ a out out' k k' h z q = rw (h, ← z) q

@@ -11,6 +11,7 @@ use Rattle.cursor.specs.declared.Cursor.{Cursor}
 use Rattle.cursor.specs.declared.Step.{Step}
 use Rattle.cursor.specs.declared.Step.the-variants as step
 use Rattle.cursor.specs.declared.Stepped.{Stepped}
+use Rattle.cursor.specs.declared.Walked.{Walked}
 
 abbrev pub stateOf : State → spec.State
 stateOf state.Before = spec.before
@@ -30,7 +31,11 @@ abbrev pub stepAnswer : Step → Answer
 stepAnswer (step.Refused k) = refused k
 stepAnswer (step.Wrote n) = wroteKey n
 
--- the answer, the output buffer and the cursor after a step
+-- after a step over lent offsets: its answer, the output buffer, and the cursor of its state and the offsets
+abbrev pub walkedOf : Walked → List ℕ → Bytes → spec.Advanced
+walkedOf r os out = record { answer = stepAnswer (r .answer); buffer = out; cursor = at (stateOf (r .state)) os }
+
+-- the answer, the output buffer and the cursor after a step by value
 abbrev pub advancedOf : Step → Bytes → Cursor → spec.Advanced
 advancedOf r out c = record { answer = stepAnswer r; buffer = out; cursor = cursorOf c }
 

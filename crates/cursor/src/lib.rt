@@ -12,7 +12,7 @@ ghost use Rattle.loes.specs.Cursor as spec;
 ghost use Rattle.bits.specs.Tables.{Tallies};
 ghost use Rattle.encoding.specs.Opened.{Opens};
 ghost use Rattle.cursor.specs.Moves.{leadsOn, turns, firstEdge, behind, TurnsAt, Moved, Movable, hasPath};
-ghost use Rattle.cursor.specs.Steps.{numbers, at, cursorOf, advancedOf, steppedOf};
+ghost use Rattle.cursor.specs.Steps.{stateOf, numbers, at, cursorOf, walkedOf, advancedOf, steppedOf};
 use bits::EdgeOffset;
 use bits::RecordIndex;
 use encoding::Checked;
@@ -37,25 +37,12 @@ impl Cursor {
     pub fn before() -> Cursor
         ensures { λ r. ⌜ cursorOf r ≡ at spec.before (replicate maxWidth 0) ⌝ }
     {
-        Cursor {
-            state: State::Before,
-            offsets: [EdgeOffset(0); Encoding::MAX_WIDTH],
-        }
+        Cursor::of(State::Before, [0; Encoding::MAX_WIDTH])
     }
 
-    // After the last member.
-    pub fn after() -> Cursor
-        ensures { λ r. ⌜ cursorOf r ≡ at spec.after (replicate maxWidth 0) ⌝ }
-    {
-        Cursor {
-            state: State::After,
-            offsets: [EdgeOffset(0); Encoding::MAX_WIDTH],
-        }
-    }
-
-    // At the member of a path.
-    pub fn at(path: [usize; Encoding::MAX_WIDTH]) -> Cursor
-        ensures { λ r. ⌜ cursorOf r ≡ at spec.at path ⌝ }
+    // In a state, with a path's offsets.
+    pub fn of(state: State, path: [usize; Encoding::MAX_WIDTH]) -> Cursor
+        ensures { λ r. ⌜ cursorOf r ≡ at (stateOf state) path ⌝ }
     {
         let mut offsets = [EdgeOffset(0); Encoding::MAX_WIDTH];
         let mut d: usize = 0;
@@ -63,10 +50,7 @@ impl Cursor {
             offsets[d] = EdgeOffset(path[d]);
             d += 1;
         }
-        Cursor {
-            state: State::At,
-            offsets,
-        }
+        Cursor { state, offsets }
     }
 }
 
@@ -91,9 +75,16 @@ pub enum Step {
     Wrote(usize),
 }
 
+// A step by value: the cursor that it leaves, and what it returns.
 pub struct Stepped {
     pub cursor: Cursor,
     pub answer: Step,
+}
+
+// A step over lent offsets: what it returns, and the state that it leaves.
+pub struct Walked {
+    pub answer: Step,
+    pub state: State,
 }
 
 // ---- Refusal 15: is the cursor one of this encoding?
@@ -147,14 +138,29 @@ fn zeros_from(path: &[usize], from: usize) -> bool
 }
 
 // Whether offsets are a member's path with zeros behind it.
-fn is_cursor(l: &[u8], t: &[u16], e: Encoding, path: &[usize]) -> bool
+fn at_member(l: &[u8], t: &[u16], e: Encoding, path: &[usize]) -> bool
     requires { ⌜ Opens (now l) e × Tallies (now t) × (e .width ≤ length (now path)) ⌝ }
-    ensures { λ r. ⌜ r ≡ spec.isCursorOf (entryIn (now (l .entry))) (at spec.at (now (path .entry))) ⌝ }
+    ensures { λ r. ⌜ r ≡ spec.offsetsRight (entryIn (now (l .entry))) (at spec.at (now (path .entry))) ⌝ }
 {
     if is_path(l, t, e, path) {
         return zeros_from(path, e.width);
     }
     false
+}
+
+// Whether a state and offsets are a cursor of this encoding: 256 of them, a member's path or zeros alone.
+fn is_cursor(l: &[u8], t: &[u16], e: Encoding, s: State, path: &[usize]) -> bool
+    requires { ⌜ Opens (now l) e × Tallies (now t) ⌝ }
+    ensures { λ r. ⌜ r ≡ spec.isCursorOf (entryIn (now (l .entry))) (at (stateOf s) (now (path .entry))) ⌝ }
+{
+    if path.len() != Encoding::MAX_WIDTH {
+        return false;
+    }
+    match s {
+        State::At => at_member(l, t, e, path),
+        State::Before => zeros_from(path, 0),
+        State::After => zeros_from(path, 0),
+    }
 }
 
 // ---- The next path
@@ -245,121 +251,129 @@ fn first_path(l: &[u8], t: &[u16], e: Encoding, path: &mut [usize])
     }
 }
 
-// ---- The step, behind the check
-// From a member's path: the turn is found first, and nothing moves before the buffer is known to fit.
-fn step_at(
-    l: &[u8],
-    t: &[u16],
-    e: Encoding,
-    c: Cursor,
-    path: [usize; Encoding::MAX_WIDTH],
-    out: &mut [u8],
-) -> Stepped
-    requires { ⌜ Opens (now l) e × Tallies (now t) × (cursorOf c ≡ at spec.at path) × (spec.isCursorOf (entryIn (now l)) (cursorOf c) ≡ true) ⌝ }
-    ensures { λ r. ⌜ steppedOf r (now (out .exit)) ≡ spec.advance (entryIn (now (l .entry))) (cursorOf c) (now (out .entry)) ⌝ }
+// All offsets 0.
+fn clear(path: &mut [usize])
+    ensures { λ _. ⌜ now (path .exit) ≡ replicate (length (now (path .entry))) 0 ⌝ }
 {
-    let level = turn_level(l, e, &path);
+    let mut d: usize = 0;
+    while d < path.len() {
+        path[d] = 0;
+        d += 1;
+    }
+}
+
+// ---- The step, behind the check, over lent offsets
+// From a member's path: the turn is found first, and nothing moves before the buffer is known to fit.
+fn step_at(l: &[u8], e: Encoding, path: &mut [usize], out: &mut [u8]) -> Walked
+    requires { ⌜ Opens (now l) e × (spec.isCursorOf (entryIn (now l)) (at spec.at (now path)) ≡ true) ⌝ }
+    ensures { λ r. ⌜ walkedOf r (now (path .exit)) (now (out .exit)) ≡ spec.advance (entryIn (now (l .entry))) (at spec.at (now (path .entry))) (now (out .entry)) ⌝ }
+{
+    let level = turn_level(l, e, path);
     if level == 0 {
-        return Stepped {
-            cursor: Cursor::after(),
+        clear(path);
+        return Walked {
             answer: Step::Wrote(0),
+            state: State::After,
         };
     }
     let m = e.width;
     if out.len() < (m + 7) / 8 {
-        return Stepped {
-            cursor: c,
+        return Walked {
             answer: Step::Refused(SHORT_BUFFER),
+            state: State::At,
         };
     }
-    let mut next = path;
-    move_on(l, e, level - 1, &mut next);
-    let n = query::write_key(&next, m, out);
-    Stepped {
-        cursor: Cursor::at(next),
+    move_on(l, e, level - 1, path);
+    let n = query::write_key(path, m, out);
+    Walked {
         answer: Step::Wrote(n),
+        state: State::At,
     }
 }
 
 // From before the first member.
-fn step_before(l: &[u8], t: &[u16], e: Encoding, c: Cursor, out: &mut [u8]) -> Stepped
-    requires { ⌜ Opens (now l) e × Tallies (now t) × (cursorOf c ≡ at spec.before (replicate maxWidth 0)) ⌝ }
-    ensures { λ r. ⌜ steppedOf r (now (out .exit)) ≡ spec.advance (entryIn (now (l .entry))) (cursorOf c) (now (out .entry)) ⌝ }
+fn step_before(l: &[u8], t: &[u16], e: Encoding, path: &mut [usize], out: &mut [u8]) -> Walked
+    requires { ⌜ Opens (now l) e × Tallies (now t) × (now path ≡ replicate maxWidth 0) ⌝ }
+    ensures { λ r. ⌜ walkedOf r (now (path .exit)) (now (out .exit)) ≡ spec.advance (entryIn (now (l .entry))) (at spec.before (now (path .entry))) (now (out .entry)) ⌝ }
 {
     if e.bits == 0 {
-        return Stepped {
-            cursor: Cursor::after(),
+        return Walked {
             answer: Step::Wrote(0),
+            state: State::After,
         };
     }
     let m = e.width;
     if out.len() < (m + 7) / 8 {
-        return Stepped {
-            cursor: c,
+        return Walked {
             answer: Step::Refused(SHORT_BUFFER),
+            state: State::Before,
         };
     }
-    let mut path = query::no_offsets();
-    first_path(l, t, e, &mut path);
-    let n = query::write_key(&path, m, out);
-    Stepped {
-        cursor: Cursor::at(path),
+    first_path(l, t, e, path);
+    let n = query::write_key(path, m, out);
+    Walked {
         answer: Step::Wrote(n),
+        state: State::At,
     }
 }
 
-// From a right cursor, as every step leaves it: only 14 is tested, and only the levels that change ask for edges.
-pub fn step_right(l: &[u8], t: &[u16], e: Encoding, c: Cursor, out: &mut [u8]) -> Stepped
-    requires { ⌜ Opens (now l) e × Tallies (now t) × (spec.isCursorOf (entryIn (now l)) (cursorOf c) ≡ true) ⌝ }
-    ensures { λ r. ⌜ steppedOf r (now (out .exit)) ≡ spec.advance (entryIn (now (l .entry))) (cursorOf c) (now (out .entry)) ⌝ }
+// From a right cursor, as every step leaves it: only 14 is tested. Only the first step counts set bits, so only it makes the table.
+pub fn step_right(l: &[u8], e: Encoding, s: State, path: &mut [usize], out: &mut [u8]) -> Walked
+    requires { ⌜ Opens (now l) e × (spec.isCursorOf (entryIn (now l)) (at (stateOf s) (now path)) ≡ true) ⌝ }
+    ensures { λ r. ⌜ walkedOf r (now (path .exit)) (now (out .exit)) ≡ spec.advance (entryIn (now (l .entry))) (at (stateOf s) (now (path .entry))) (now (out .entry)) ⌝ }
 {
-    let path = path_of(c);
-    let state = c.state;
-    match state {
-        State::At => step_at(l, t, e, c, path, out),
-        State::Before => step_before(l, t, e, c, out),
-        State::After => Stepped {
-            cursor: c,
+    match s {
+        State::At => step_at(l, e, path, out),
+        State::Before => {
+            let t = bits::tallies();
+            step_before(l, &t, e, path, out)
+        }
+        State::After => Walked {
             answer: Step::Wrote(0),
+            state: State::After,
         },
     }
 }
 
-// From any cursor: 15, then 14 unless it goes to after. (Not by way of `step_right`: the offsets are taken out once.)
+// From any cursor: 15, then 14 unless it goes to after.
+pub fn step_any(
+    l: &[u8],
+    t: &[u16],
+    e: Encoding,
+    s: State,
+    path: &mut [usize],
+    out: &mut [u8],
+) -> Walked
+    requires { ⌜ Opens (now l) e × Tallies (now t) ⌝ }
+    ensures { λ r. ⌜ walkedOf r (now (path .exit)) (now (out .exit)) ≡ spec.advance (entryIn (now (l .entry))) (at (stateOf s) (now (path .entry))) (now (out .entry)) ⌝ }
+{
+    if is_cursor(l, t, e, s, path) {
+        return step_right(l, e, s, path, out);
+    }
+    Walked {
+        answer: Step::Refused(BAD_CURSOR),
+        state: s,
+    }
+}
+
+// The step by value.
 pub fn advanced(l: &[u8], t: &[u16], e: Encoding, c: Cursor, out: &mut [u8]) -> Stepped
     requires { ⌜ Opens (now l) e × Tallies (now t) ⌝ }
     ensures { λ r. ⌜ steppedOf r (now (out .exit)) ≡ spec.advance (entryIn (now (l .entry))) (cursorOf c) (now (out .entry)) ⌝ }
 {
-    let path = path_of(c);
-    let state = c.state;
-    match state {
-        State::At => {
-            if is_cursor(l, t, e, &path) {
-                return step_at(l, t, e, c, path, out);
-            }
-        }
-        State::Before => {
-            if zeros_from(&path, 0) {
-                return step_before(l, t, e, c, out);
-            }
-        }
-        State::After => {
-            if zeros_from(&path, 0) {
-                return Stepped {
-                    cursor: c,
-                    answer: Step::Wrote(0),
-                };
-            }
-        }
-    }
+    let mut path = path_of(c);
+    let from = c.state;
+    let walked = step_any(l, t, e, from, &mut path, out);
+    let answer = walked.answer;
+    let to = walked.state;
     Stepped {
-        cursor: c,
-        answer: Step::Refused(BAD_CURSOR),
+        cursor: Cursor::of(to, path),
+        answer,
     }
 }
 
 // ---- On bytes: the check first
-// The step by value.
+// The same, by value.
 pub fn advanced_call(l: &[u8], c: Cursor, out: &mut [u8]) -> Stepped
     ensures { λ r. ⌜ steppedOf r (now (out .exit)) ≡ spec.advanceCall (now (l .entry)) (cursorOf c) (now (out .entry)) ⌝ }
 {

@@ -98,13 +98,13 @@ packed-bits l n h small clear =
     let e : List Bool = tabulate (bitAt l) n in
     let le : length e ≡ n = length-tabulate (bitAt l) n in
     let lp : length (tabulate (byteOf e) (started 8 (length e))) ≡ length l = rw (length-tabulate, le) (sym h) in
-    let edgeCount : (o : ℕ) → o < 8 * length l → getD e o false ≡ bitAt l o = λ o q.
+    let each : (o : ℕ) → o < 8 * length l → getD e o false ≡ bitAt l o = λ o q.
     elim (decLe (suc o) n) [ yes y ↦ getD-tabulate (bitAt l) n o false y | no y ↦ List·getD-eq-default e false {n = o} (omega arith) ∙ sym (clear o (omega arith) q) ] in
     ext-getD 0 (tabulate (byteOf e) (started 8 (length e))) l lp (λ i q.
     let il : i < length l = rw lp at q in
     let ix : i < started 8 (length e) = rw (length-tabulate (byteOf e) (started 8 (length e))) at q in
     getD-tabulate (byteOf e) (started 8 (length e)) i 0 ix
-    ∙ ap (λ x. bitsValue x 0) (tabulate-ext (λ j. getD e (8 * i + j) false) (λ j. odd (getD l i 0 / 2 ^ (7 - j))) 8 (λ j z. edgeCount (8 * i + j) (omega arith) ∙ at-bit l i j z))
+    ∙ ap (λ x. bitsValue x 0) (tabulate-ext (λ j. getD e (8 * i + j) false) (λ j. odd (getD l i 0 / 2 ^ (7 - j))) 8 (λ j z. each (8 * i + j) (omega arith) ∙ at-bit l i j z))
     ∙ byte-bitsValue (getD l i 0) (small i il))
 
 -- ---- set bits of a byte, as `u8::count_ones` counts them

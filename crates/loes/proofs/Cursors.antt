@@ -4,7 +4,7 @@ use Prim.Native.Nat.{ℕ, zero, suc, _+_, _-_, _*_, _≤_, _<_}
 use mathlib.Core.Bool.{Bool, true, false, _||_, not, false≢true, or-true}
 use mathlib.Core.List.{List, [], _∷_, _++_, map}
 use native.Mathlib.Omega.{arith}
-use lib.ListN.{length, take, drop, getD, replicate, length-drop, take-append-drop}
+use lib.ListN.{length, take, drop, getD, replicate, length-append, length-drop, length-replicate, take-append-drop}
 use lib.Seq.{take-at, drop-at}
 use lib.Dec.{eqb}
 use Rattle.loes.specs.Limits.{maxWidth}
@@ -14,7 +14,7 @@ use Rattle.loes.specs.Edges.{edgeOffsets, rank}
 use Rattle.loes.specs.Entry.{Entry, keyBytes, keysOf, count, edgesOf}
 use Rattle.loes.specs.Refusals.{test, firstOf}
 use Rattle.loes.specs.Model.{wroteKey}
-use Rattle.loes.specs.Cursor.{advanceTests, State, before, at, after, Cursor, allZero, padded, pathOf, isCursorOf, keyOfPath, nextIndex, staysOr, hasNext, nextKey, goesTo, goesToAfter, advance}
+use Rattle.loes.specs.Cursor.{advanceTests, State, before, at, after, Cursor, allZero, padded, pathOf, offsetsRight, isCursorOf, keyOfPath, nextIndex, staysOr, hasNext, nextKey, goesTo, goesToAfter, advance}
 use Rattle.loes.proofs.Tests.{lt-yes, lt-no, both, same-self, same-is, yes-eq}
 use Rattle.loes.proofs.Tree.{bit-le}
 use Rattle.loes.proofs.Bits.{odd-bit}
@@ -72,6 +72,10 @@ path-length : (e : Entry) (i : ℕ) → i < count e → length (pathOf e (getD (
 unfolding pathOf
 path-length e i h = length-offsets (edgesOf e) 0 (getD (keysOf e) i []) ∙ inside-at e i h .0
 
+length-padded : (os : List ℕ) → length os ≤ maxWidth → length (padded os) ≡ maxWidth
+unfolding padded
+length-padded os h = length-append os (replicate (maxWidth - length os) 0) ∙ omega (arith, length-replicate {A = ℕ} (maxWidth - length os) 0)
+
 take-path : (e : Entry) (i : ℕ) → i < count e → take (e .width) (padded (pathOf e (getD (keysOf e) i []))) ≡ pathOf e (getD (keysOf e) i [])
 unfolding padded
 take-path e i h = take-at (pathOf e (getD (keysOf e) i [])) _ (e .width) (path-length e i h)
@@ -81,10 +85,16 @@ unfolding padded
 drop-path e i h =
     drop-at (pathOf e (getD (keysOf e) i [])) _ (e .width) (path-length e i h) ∙ ap (λ n. replicate (maxWidth - n) 0) (path-length e i h)
 
-pub right-at : (e : Entry) (i : ℕ) → i < count e → isCursorOf e (cursorAt e i) ≡ true
-unfolding isCursorOf cursorAt count
-right-at e i h =
+-- a right cursor has 256 offsets, and they are right
+pub right-parts : (e : Entry) (c : Cursor) → isCursorOf e c ≡ true → (length (c .offsets) ≡ maxWidth) × (offsetsRight e c ≡ true)
+unfolding isCursorOf
+right-parts e c h = let b = both (eqb (length (c .offsets)) maxWidth) (offsetsRight e c) h in (yes-eq (length (c .offsets)) maxWidth (b .0), b .1)
+
+pub right-at : (e : Entry) (i : ℕ) → e .width ≤ maxWidth → i < count e → isCursorOf e (cursorAt e i) ≡ true
+unfolding isCursorOf offsetsRight cursorAt count
+right-at e i n h =
     rw (
+      length-padded (pathOf e (getD (keysOf e) i [])) (omega (arith, n, path-length e i h)),
       take-path e i h,
       drop-path e i h,
       zeros-zero (maxWidth - e .width),
@@ -92,15 +102,17 @@ right-at e i h =
     )
 
 pub right-none : (e : Entry) → (isCursorOf e (noOffsets before) ≡ true) × (isCursorOf e (noOffsets after) ≡ true)
-unfolding isCursorOf noOffsets padded
+unfolding isCursorOf offsetsRight noOffsets padded
 right-none e = (zeros-zero 256, zeros-zero 256)
 
 -- and these are all
-pub right-is : (e : Entry) (os : List ℕ) → length os ≡ maxWidth → isCursorOf e (record { state = at; offsets = os }) ≡ true
+pub right-is : (e : Entry) (os : List ℕ) → isCursorOf e (record { state = at; offsets = os }) ≡ true
     → (i : ℕ) × (i < count e) × (record { state = at; offsets = os } ≡ cursorAt e i)
-unfolding isCursorOf cursorAt count padded
-right-is e os l h =
-    let b = both (any (λ (k : Key). sameNumbers (pathOf e k) (take (e .width) os)) (keysOf e)) (allZero (drop (e .width) os)) h in
+unfolding offsetsRight cursorAt count padded
+right-is e os h =
+    let p = right-parts e (record { state = at; offsets = os }) h in
+    let l : length os ≡ maxWidth = p .0 in
+    let b = both (any (λ (k : Key). sameNumbers (pathOf e k) (take (e .width) os)) (keysOf e)) (allZero (drop (e .width) os)) (p .1) in
     let r = any-is (λ (k : Key). sameNumbers (pathOf e k) (take (e .width) os)) (keysOf e) [] (b .0) in
     let k : Key = getD (keysOf e) (r .0) [] in
     let t : pathOf e k ≡ take (e .width) os = same-is (pathOf e k) (take (e .width) os) (r .2) in
@@ -110,9 +122,17 @@ right-is e os l h =
     let w : os ≡ pathOf e k ++ replicate (maxWidth - length (pathOf e k)) 0 = sym (take-append-drop (e .width) os) ∙ ap₂ _++_ (sym t) z in
     (r .0, r .1, ap (λ (x : List ℕ). record { state = at; offsets = x }) w)
 
-pub right-bare : (e : Entry) (os : List ℕ) → length os ≡ maxWidth → allZero os ≡ true → os ≡ padded []
+bare : (os : List ℕ) → length os ≡ maxWidth → allZero os ≡ true → os ≡ padded []
 unfolding padded
-right-bare e os l h = zeros-is os h ∙ ap (λ n. replicate n 0) l
+bare os l h = zeros-is os h ∙ ap (λ n. replicate n 0) l
+
+pub right-before : (e : Entry) (os : List ℕ) → isCursorOf e (record { state = before; offsets = os }) ≡ true → os ≡ padded []
+unfolding offsetsRight
+right-before e os h = let p = right-parts e (record { state = before; offsets = os }) h in bare os (p .0) (p .1)
+
+pub right-after : (e : Entry) (os : List ℕ) → isCursorOf e (record { state = after; offsets = os }) ≡ true → os ≡ padded []
+unfolding offsetsRight
+right-after e os h = let p = right-parts e (record { state = after; offsets = os }) h in bare os (p .0) (p .1)
 
 pub next-at : (e : Entry) (i : ℕ) → i < count e → nextIndex e (cursorAt e i) ≡ suc i
 unfolding nextIndex cursorAt keyOfPath pathOf

@@ -1,6 +1,6 @@
 -- A refused call leaves every lent buffer, and the cursor, as they were.
 use mathlib.Core.Path.{_≡_, refl, subst}
-use Prim.Native.Nat.{ℕ, _-_}
+use Prim.Native.Nat.{ℕ}
 use mathlib.Core.Bool.{Bool, true, false, cond}
 use mathlib.Core.List.{List, [], _∷_}
 use mathlib.Core.Option.{Option, none, some}
@@ -8,7 +8,7 @@ use Rattle.loes.specs.Bytes.{Bytes}
 use Rattle.loes.specs.Entry.{Entry}
 use Rattle.loes.specs.Refusals.{Tests, firstOf}
 use Rattle.loes.specs.Read.{Reading, rejected, opened, read}
-use Rattle.loes.specs.Model.{Answer, refused, wrote, wroteKey, indexIs, rankIs, isPresent, isAbsent, isNone, tells, Outcome, Step, refusal, refusedOr, tested, writes, writesKey, answers, pack, union, difference, keyAt}
+use Rattle.loes.specs.Model.{Answer, refused, wrote, wroteKey, indexIs, rankIs, isPresent, isAbsent, isNone, tells, Outcome, Step, refusal, refusedOr, tested, writes, writesKey, pack, union, difference, keyAt}
 use Rattle.loes.specs.Calls.{afterReading, reading, packCall, unionCall, differenceCall, keyAtCall}
 use Rattle.loes.specs.Cursor.{Cursor, Advanced, staysOr, stays, hasNext, nextKey, goesTo, goesToAfter, advance, advanceReading, advanceCall}
 
@@ -53,10 +53,6 @@ writes-keeps ts es bufs = tested-keeps _ bufs _ tt
 key-keeps : (ts : Tests) (t : ℕ) (k : List Bool) (out : Bytes) → Keeps (writesKey ts t k out .outcome) (out ∷ [])
 unfolding writesKey
 key-keeps ts t k out = tested-keeps _ (out ∷ []) _ tt
-
-answers-keeps : (ts : Tests) (a : Answer) → Accepts a → Keeps (answers ts a .outcome) []
-unfolding answers
-answers-keeps ts a h = tested-keeps ts [] _ h
 
 pub record RefusalsKeep : Type 0 where
   pub pack : (m : ℕ) (batch out : Bytes) → Keeps (packCall m batch out) (out ∷ [])

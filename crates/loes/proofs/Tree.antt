@@ -79,7 +79,7 @@ level-tree zero (suc m) s h = level-zero m s
 level-tree (suc d) (suc m) s h =
     rw level-step (ap₂ _++_ (level-tree d m (half false s) (omega arith)) (level-tree d m (half true s) (omega arith)))
 
--- ---- (a)
+-- ---- Set bits of a level, and the records below it
 pub ones-root : (a b : Bool) → ones (recordBits (rootRecord a b)) ≡ bit a + bit b
 unfolding ones recordBits rootRecord
 ones-root false false = refl

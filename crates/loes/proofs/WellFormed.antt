@@ -1,6 +1,6 @@
--- A flat bit sequence is the edge sequence of a set exactly if it is well formed, level by level
+-- A flat bit sequence that is well formed, level by level, is the edge sequence of a set
 use mathlib.Core.Path.{_≡_, refl, sym, ap, _∙_}
-use Prim.Native.Nat.{ℕ, zero, suc, _+_, _-_, _*_, _≤_, _<_}
+use Prim.Native.Nat.{ℕ, zero, suc, _*_, _≤_, _<_}
 use mathlib.Core.Bool.{Bool, true, false}
 use mathlib.Core.List.{List, [], _∷_, _++_, append-assoc, append-nil, map, map-append}
 use native.Mathlib.Omega.{arith}
@@ -83,7 +83,7 @@ well-set m e w =
     ∙ rw (take-all (length (t .levels)) (t .levels) (omega arith)) (t .whole) in
     (c .0, rw (t .count) at (c .1), rw (t .count) at g)
 
--- and the other way
+-- a level of a set has no empty record
 pub no-empty-append : (l r : List Record) → NoEmpty l → NoEmpty r → NoEmpty (l ++ r)
 no-empty-append [] r h k = k
 no-empty-append (x ∷ l) r h k = (h .0, no-empty-append l r (h .1) k)

@@ -31,14 +31,18 @@ unfoldable pub pathOf : Entry → Key → List ℕ
 pathOf e k = edgeOffsets (edgesOf e) 0 k
 
 -- before and after have no offset; at a member stands its path; every other offset is 0
-unfoldable pub isCursorOf : Entry → Cursor → Bool
-isCursorOf e c = elim (c .state) [
+unfoldable pub offsetsRight : Entry → Cursor → Bool
+offsetsRight e c = elim (c .state) [
   | before ↦ allZero (c .offsets)
   | after ↦ allZero (c .offsets)
   | at ↦
       any (λ (k : Key). sameNumbers (pathOf e k) (take (e .width) (c .offsets))) (keysOf e)
       && allZero (drop (e .width) (c .offsets))
 ]
+
+-- and there are 256 of them
+unfoldable pub isCursorOf : Entry → Cursor → Bool
+isCursorOf e c = eqb (length (c .offsets)) maxWidth && offsetsRight e c
 
 -- behind the offsets that a cursor uses stand zeros
 unfoldable pub padded : List ℕ → List ℕ

@@ -1,4 +1,4 @@
--- Document 01's worked examples, each by its number. The proof of each is computation.
+-- Document 01's worked examples, and further ones. The proof of each is computation.
 use mathlib.Core.Path.{_≡_}
 use Prim.Native.Nat.{ℕ}
 use mathlib.Core.Bool.{true, false}
@@ -84,7 +84,7 @@ pub record Examples : Type 0 where
   pub p10-bits : edgeCount eight ≡ 14
   pub p10-tells : openCall (encode eight) ≡ saying (tells 3 8 14)
 
--- ---- Further: document 01's other examples, each refusal once, and a whole walk
+-- ---- Further: document 01's other examples, the other refusals, and a whole walk
 abbrev pub cursor : State → List ℕ → Cursor
 cursor s os = record { state = s; offsets = os ++ replicate 253 0 }
 

@@ -7,6 +7,7 @@ pub mod Entry
 pub mod Encode
 pub mod Refusals
 pub mod Read
+-- (edges in a buffer: for the contracts of inner functions)
 pub mod Held
 pub mod Model
 pub mod Calls

@@ -10,7 +10,7 @@ ghost use Rattle.loes.specs.Edges.{recordBits};
 ghost use Rattle.loes.specs.Entry.{edgesOf, edgeCount};
 ghost use Rattle.loes.specs.Held.{held, Holds};
 ghost use Rattle.merge.specs.Records.{recordOfCode, recordAt, recordsTo, hasEdge, flagAt, flagsFrom, withRecord, Put, Pushed, Sealed, Written};
-ghost use Rattle.merge.specs.Union.{unionOf, differenceOf, Merged, Room, eitherRecord, childFlags, takenRecord, Queued, RecordMerged, LevelMerged, LevelRoom};
+ghost use Rattle.merge.specs.Union.{differenceOf, Merged, Room, eitherRecord, childFlags, takenRecord, Queued, RecordMerged, LevelMerged, LevelRoom};
 ghost use Rattle.merge.specs.Restriction.{restricted, flagMask, Flagged, Restricted, keptAt, Entries, RecordMarked, Marked, Compacted};
 
 // ---- Records in bytes, as numbers 2·onZero + onOne

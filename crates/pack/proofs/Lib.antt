@@ -4,14 +4,13 @@ pub mod SetBits
 pub mod Differences
 pub mod Prefixes
 pub mod Places
-pub mod Unused
 pub mod Order
 pub mod KeyTests
 pub mod Pass
 pub mod Turn
 pub mod Sums
 pub mod Batches
-pub mod Held
+pub mod Valid
 pub mod Plans
 pub mod Calls
 pub mod Written

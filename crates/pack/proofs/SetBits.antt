@@ -8,7 +8,7 @@ use native.Mathlib.Omega.{arith}
 use native.Mathlib.Decide.{decLe, ℕ-discrete}
 use mir.Val.{boolByte}
 use lib.ListN.{length, getD, set, length-set}
-use lib.Pow.{pow-pos, pow-add, shl-exact, shl-shr}
+use lib.Pow.{pow-add, shl-shr}
 use lib.Bits.{bitAnd, bitOr, or-add-and, and-high}
 use lib.Seq.{ext-getD, getD-set-same, getD-set-other, set-getD}
 use Rattle.loes.specs.Bytes.{bit, odd, bitAt, tabulate, bitsValue, byteOf, packBits, started}
@@ -88,9 +88,6 @@ packed-set e o h = rw (at-packed e o h) (go (getD e o false) refl)
     go false q = packed-empty e o h q
 
 -- ---- the code's way to set it
-pub shl-is : (k : ℕ) → k ≤ 7 → 1 * 2 ^ k % 256 ≡ 2 ^ k
-shl-is k h = shl-exact 1 k 8 (omega arith) (omega arith) ∙ omega arith
-
 and-bit : (x k : ℕ) → bitAnd x (2 ^ k) ≡ x / 2 ^ k % 2 * 2 ^ k
 and-bit x k = let z : 2 ^ (1 + k) - 2 ^ k ≡ 2 ^ k = rw (pow-add 2 1 k) (omega arith) in rw z at (and-high x 1 k)
 
@@ -126,9 +123,6 @@ bits-more o from e l cur new h c n =
 pub bits-none : (o : ℕ → ℕ) (from : ℕ) (l : List ℕ) → l ≡ setBits o from (from - from) l
 unfolding setBits
 bits-none o from l = let z : from - from ≡ 0 = omega arith in rw z
-
-pub shl-pos : (k : ℕ) → k ≤ 7 → 0 < 1 * 2 ^ k % 256
-shl-pos k h = rw (shl-is k h) (pow-pos k)
 
 -- ---- a truth value as a number
 pub byte-bit : (b : Bool) → boolByte b ≡ bit b

@@ -13,7 +13,7 @@ use Rattle.loes.proofs.Bytes.{length-packed}
 use Rattle.build.specs.Writing.{Sealed}
 use Rattle.build.proofs.Sealing.{held-back, sealed-back}
 use Rattle.pack.specs.Packing.{Made}
-use Rattle.pack.proofs.Held.{made-valid}
+use Rattle.pack.proofs.Valid.{made-valid}
 use Rattle.pack.proofs.Calls.{pack-accepted}
 
 module _ (m : ℕ) (l old new : Bytes) (b : ℕ) (made : Made m l old new b) where

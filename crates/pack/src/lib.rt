@@ -7,7 +7,7 @@ ghost use Rattle.loes.specs.Edges.{edges as edgesIn};
 ghost use Rattle.loes.specs.Bytes.{packBits};
 ghost use Rattle.loes.specs.Keys.{less};
 ghost use Rattle.loes.specs.Entry.{keyBytes, edgesOf};
-ghost use Rattle.loes.specs.Model.{keyIn, unusedSet, batchEntry};
+ghost use Rattle.loes.specs.Model.{keyIn, batchEntry};
 ghost use Rattle.loes.specs.Calls.{packCall};
 ghost use Rattle.bits.specs.Tables.{Tallies};
 ghost use Rattle.build.specs.Writing.{writtenOutcome};
@@ -85,15 +85,6 @@ fn first_new(batch: &[u8], i: usize, t: usize, m: usize) -> usize
 }
 
 // ---- First pass: the keys are checked, and the records of each level counted
-// Whether a bit behind the m bits of a key is set.
-fn unused_set(key: &[u8], t: usize, m: usize) -> bool
-    requires { ⌜ ((0 < m) × (m ≤ maxWidth)) × ((t ≡ keyBytes m) × (t ≤ length (now key))) ⌝ }
-    ensures { λ r. ⌜ r ≡ unusedSet m (now (key .entry)) ⌝ }
-{
-    let x = key[t - 1];
-    x % (1u8 << (8 * t - m)) != 0
-}
-
 // Whether key i is smaller than the one before it, which then has 1 in the first bit in which they differ.
 fn descends(batch: &[u8], i: usize, new: usize, t: usize, m: usize) -> bool
     requires { ⌜ KeyThere m t i (now batch) × (new ≡ firstNew (key m (now batch)) i) ⌝ }
@@ -115,7 +106,7 @@ fn check_key(batch: &[u8], i: usize, t: usize, m: usize) -> Checked
     ensures { λ r. ⌜ KeyChecked m (now (batch .entry)) i r ⌝ }
 {
     let at = t * i;
-    if unused_set(&batch[at..], t, m) {
+    if bits::unused_set(&batch[at..], t, m) {
         return Checked::Refused(refusal::UNUSED_BIT_SET);
     }
     let new = first_new(batch, i, t, m);

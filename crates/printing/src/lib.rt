@@ -49,7 +49,7 @@ fn glyph(x: u8) -> u8 {
     if d < 10 { b'0' + d } else { b'A' + (d - 10) }
 }
 
-fn put_key(text: &mut [u8], at: usize, key: &[u8]) -> usize {
+pub fn put_key(text: &mut [u8], at: usize, key: &[u8]) -> usize {
     let mut end = at;
     let mut i: usize = 0;
     while i < key.len() {
@@ -87,7 +87,7 @@ pub fn put_refused(text: &mut [u8], at: usize, k: u8) -> usize {
 }
 
 // ---- Writing
-fn flush(text: &[u8], n: usize) {
+pub fn flush(text: &[u8], n: usize) {
     if n <= text.len() {
         io::write_all(STDOUT_FILENO, &text[..n]);
     }

@@ -9,16 +9,11 @@ use lib.ListN.{length, take, getD, length-take, List·getD-eq-default}
 use lib.Seq.{take-append-le, take-all}
 use Rattle.loes.specs.Bytes.{Bytes, tabulate, bitAt, bitsIn}
 use Rattle.loes.specs.Edges.{ones, onesBefore, rank}
-use Rattle.loes.proofs.Bytes.{getD-tabulate}
 use Rattle.loes.proofs.Seven.{ones-le}
 use Rattle.bits.proofs.Counts.{length-bitsIn}
 
 pub up : (n : ℕ) → suc n ≡ n + 1
 up n = omega arith
-
-pub at-bitsIn : (l : Bytes) (n i : ℕ) → i < n → getD (bitsIn l n) i false ≡ bitAt l i
-unfolding bitsIn
-at-bitsIn l n i h = getD-tabulate (bitAt l) n i false h
 
 pub bits-suc : (l : Bytes) (n : ℕ) → bitsIn l (suc n) ≡ bitsIn l n ++ bitAt l n ∷ []
 unfolding bitsIn tabulate

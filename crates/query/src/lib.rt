@@ -142,30 +142,16 @@ pub fn locate(l: &[u8], t: &[u16], e: Encoding, key: &[u8]) -> Position
 }
 
 // ---- Keys as they are given
-// Whether a bit behind the m bits of a key is set.
-fn unused_set(key: &[u8], m: usize) -> bool
-    requires { ⌜ (length (now key) ≡ keyBytes m) × (m ≤ maxWidth) ⌝ }
-    ensures { λ r. ⌜ r ≡ unusedSet m (now (key .entry)) ⌝ }
-{
-    let mut o = m;
-    while o < 8 * key.len() {
-        if bits::bit_at(key, o) {
-            return true;
-        }
-        o += 1;
-    }
-    false
-}
-
 // Refusal 8: not t bytes, or an unused bit set.
 fn bad_key(e: Encoding, key: &[u8]) -> bool
-    requires { ⌜ e .width ≤ maxWidth ⌝ }
+    requires { ⌜ (0 < e .width) × (e .width ≤ maxWidth) ⌝ }
     ensures { λ r. ⌜ r ≡ (not (eqb (length (now (key .entry))) (keyBytes (e .width))) || unusedSet (e .width) (now (key .entry))) ⌝ }
 {
-    if key.len() != (e.width + 7) / 8 {
+    let t = (e.width + 7) / 8;
+    if key.len() != t {
         return true;
     }
-    unused_set(key, e.width)
+    bits::unused_set(key, t, e.width)
 }
 
 // ---- Select

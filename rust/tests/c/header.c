@@ -57,8 +57,9 @@ int main(void) {
 
     uint64_t state = LOES_BEFORE;
     for (int i = 0; i < 3; i++) {
-        loes_step step = i == 1 ? loes_advance(set, sizeof set, state, offsets, LOES_CURSOR_OFFSETS, key, sizeof key)
-                                : loes_opened_advance(opened, set, sizeof set, state, offsets, LOES_CURSOR_OFFSETS, key, sizeof key);
+        loes_step step = i == 0   ? loes_opened_next(opened, set, sizeof set, state, offsets, LOES_CURSOR_OFFSETS, key, sizeof key)
+                         : i == 1 ? loes_advance(set, sizeof set, state, offsets, LOES_CURSOR_OFFSETS, key, sizeof key)
+                                  : loes_opened_advance(opened, set, sizeof set, state, offsets, LOES_CURSOR_OFFSETS, key, sizeof key);
         REQUIRE(step.kind == LOES_VALUE && step.value == 1 && step.state == LOES_AT && key[0] == batch[i]);
         state = step.state;
     }

@@ -201,6 +201,8 @@ pub fn check_walk<S: Subject>(rng: &mut Rng, laid: &Laid, damage: usize) {
     let t = key_len(laid.width());
     let places: Vec<&Cursor> = walk.places().collect();
     let members: Vec<&Key> = laid.set.keys.iter().collect();
+    // the walk with a cursor of its own goes along
+    let (mut own, mut place) = (S::walk(&opened), places[0].clone());
     // place by place: place i leads to place i + 1
     for i in 0..places.len() + 1 {
         let here = i.min(places.len() - 1);
@@ -219,6 +221,15 @@ pub fn check_walk<S: Subject>(rng: &mut Rng, laid: &Laid, damage: usize) {
         }
         for room in rooms {
             check_step::<S>(rng, &bytes, &opened, places[here], &step, room);
+        }
+        let mut rooms = vec![t + rng.below(3)];
+        if rng.one_in(4) {
+            rooms.splice(..0, [0, t - 1]);
+        }
+        for room in rooms {
+            let what = || format!("step {i} of the walk over {}", shown(&bytes));
+            same(rng, room, &what, |out| step(&mut place, out), |out| S::next(&mut own, out));
+            assert_eq!(S::place(&own), (place.state, place.offsets.clone()), "{}: the cursor after it", what());
         }
     }
     for _ in 0..damage {

@@ -33,6 +33,8 @@ pub enum Question {
 /// The calls, answering in the numbers of the C interface.
 pub trait Subject {
     type Opened<'a>;
+    /// A walk from before on, with a cursor of its own.
+    type Walk<'a>;
 
     fn pack(width: u64, batch: &[u8], out: &mut [u8]) -> Answer;
     fn union(a: &[u8], b: &[u8], out: &mut [u8]) -> Answer;
@@ -46,6 +48,10 @@ pub trait Subject {
     /// With the state after the step.
     fn advance(l: &[u8], state: u64, offsets: &mut [u64], out: &mut [u8]) -> (Answer, u64);
     fn advance_opened(opened: &Self::Opened<'_>, state: u64, offsets: &mut [u64], out: &mut [u8]) -> (Answer, u64);
+    fn walk<'a>(opened: &Self::Opened<'a>) -> Self::Walk<'a>;
+    fn next(walk: &mut Self::Walk<'_>, out: &mut [u8]) -> Answer;
+    /// The walk's cursor: its state and its offsets.
+    fn place(walk: &Self::Walk<'_>) -> (u64, Vec<u64>);
 }
 
 pub fn expected(laid: &Laid, question: &Question, out: &mut [u8]) -> Answer {

@@ -1,56 +1,32 @@
-use mathlib.Core.Path.{_≡_, sym, ap, ap₂, _∙_}
 use denote.Ref.{now}
-use lib.ListN.{length}
 use Rattle.loes.specs.Read.{entryIn}
-use Rattle.loes.specs.Cursor as spec
-use Rattle.loes.specs.Cursor.{padded, isCursorOf}
-use Rattle.loes.proofs.Cursors.{right-bare}
-use Rattle.cursor.specs.Steps.{stateOf, at, cursorOf}
-use Rattle.cursor.proofs.Offsets.{cursor-long, numbers-long}
-use Rattle.cursor.proofs.Stepping.{after-stays}
+use Rattle.loes.specs.Cursor.{padded}
+use Rattle.loes.proofs.Cursors.{right-before}
+use Rattle.cursor.proofs.Stepping.{after-stays, state-right, step-in}
 use borrow.Author.Needs.{needs}
 use Rattle.cursor.proofs.step_right.Statement.{statement}
 use Rattle.cursor.proofs.step_right.Tie as tie
-
-abbrev start : tie.After-path-of → tie.Start
-start c = c .before .before .before .before
-
-size : (c : tie.After-path-of) → length (c .path-of .result) ≡ 256
-size c = ap length (c .path-of .ensures) ∙ numbers-long (start c .args .c .offsets) ∙ cursor-long (start c .args .c) _ (start c .good .1 .1 .1 .0)
-
--- the cursor in the specification's words
-is-at : (c : tie.After-enum-told) → cursorOf (start (c .before .before) .args .c) ≡ at spec.at (c .before .before .path-of .result)
-is-at c = ap₂ (λ s o. at (stateOf s) o) (c .enum-told .given .1) (sym (c .before .before .path-of .ensures))
-
-is-before : (c : tie.After-enum-told2) → cursorOf (start (c .before .before) .args .c) ≡ at spec.before (c .before .before .path-of .result)
-is-before c = ap₂ (λ s o. at (stateOf s) o) (c .enum-told2 .given .1) (sym (c .before .before .path-of .ensures))
-
-is-after : (c : tie.After-enum-told3) → cursorOf (start (c .before .before) .args .c) ≡ at spec.after (c .before .before .path-of .result)
-is-after c = ap₂ (λ s o. at (stateOf s) o) (c .enum-told3 .given .1) (sym (c .before .before .path-of .ensures))
-
-path-of-requires : tie.Need-path-of-requires
-path-of-requires c κs = search needs
 
 enum-told : tie.Need-enum-told
 enum-told c = search needs
 
 step-at-requires : tie.Need-step-at-requires
-step-at-requires c κs =
-    let t = c .before in
-    let s = start (t .before .before) in
-    (s .pre .0, s .pre .1, is-at t, s .pre .2)
+step-at-requires c κs = let s = c .before .before .before .before .before .before .before in (s .pre .0, state-right _ _ _ _ (c .before .before .enum-told .given .1) (s .pre .1))
 
 enum-told-2 : tie.Need-enum-told-2
 enum-told-2 c = search needs
 
+tallies-requires : tie.Need-tallies-requires
+tallies-requires c κs = search needs
+
+slice-aggregate-step-before : tie.Need-slice-aggregate-step-before
+slice-aggregate-step-before c = search needs
+
 step-before-requires : tie.Need-step-before-requires
-unfolding padded isCursorOf
+unfolding padded
 step-before-requires c κs =
-    let t = c .before in
-    let s = start (t .before .before) in
-    let h = sym (ap (isCursorOf (entryIn (now (s .args .l)))) (is-before t)) ∙ s .pre .2 in
-    let z = right-bare (entryIn (now (s .args .l))) _ (size (t .before .before)) h in
-    (s .pre .0, s .pre .1, is-before t ∙ ap (λ x. at spec.before x) z)
+    let s = c .before .before .before .before .before .before .before .before .before in
+    (s .pre .0, c .before .before .before .tallies .ensures, right-before (entryIn (now (s .args .l))) _ (state-right (entryIn (now (s .args .l))) _ _ _ (c .before .before .before .before .enum-told2 .given .1) (s .pre .1)))
 
 enum-told-3 : tie.Need-enum-told-3
 enum-told-3 c = search needs
@@ -58,33 +34,39 @@ enum-told-3 c = search needs
 same-length : tie.Need-same-length
 same-length c = search needs
 
-returns : tie.Need-returns
-returns c = search needs
-
 same-length-2 : tie.Need-same-length-2
 same-length-2 c = search needs
 
+returns : tie.Need-returns
+returns c = step-in _ _ _ _ _ _ (c .before .before .before .before .before .before .before .enum-told .given .1) (c .before .before .before .before .step-at .ensures)
+
+same-length-3 : tie.Need-same-length-3
+same-length-3 c = search needs
+
+same-length-4 : tie.Need-same-length-4
+same-length-4 c = search needs
+
 returns-2 : tie.Need-returns-2
-returns-2 c = search needs
+returns-2 c = step-in _ _ _ _ _ _ (c .before .before .before .before .before .before .before .before .before .enum-told2 .given .1) (c .before .before .before .before .step-before .ensures)
 
 returns-3 : tie.Need-returns-3
-unfolding isCursorOf
-returns-3 c =
-    let s = start (c .before .before) in
-    after-stays _ _ _ _ (is-after c) (size (c .before .before)) (sym (ap (isCursorOf (entryIn (now (s .args .l)))) (is-after c)) ∙ s .pre .2)
+returns-3 c = let s = c .before .before .before .before .before in let t = c .enum-told3 .given .1 in step-in _ _ _ _ _ _ t (after-stays _ _ _ (state-right _ _ _ _ t (s .pre .1)))
 
 pub step-right-spec : {M : Type 1} → statement M
 step-right-spec =
     tie.close
     (tie.spec
-    path-of-requires
     enum-told
     step-at-requires
     enum-told-2
+    tallies-requires
+    slice-aggregate-step-before
     step-before-requires
     enum-told-3
     same-length
-    returns
     same-length-2
+    returns
+    same-length-3
+    same-length-4
     returns-2
     returns-3)

@@ -9,7 +9,7 @@ use Rattle.query.proofs.lower_bound_in.Statement.{statement}
 use Rattle.query.proofs.lower_bound_in.Tie as tie
 
 bad-key-requires : tie.Need-bad-key-requires
-bad-key-requires c κs = let s = c .before .before .before in omega (arith, opens-valid _ _ (s .pre .0) .narrow, s .pre .0 .width)
+bad-key-requires c κs = let s = c .before .before .before in let v = opens-valid _ _ (s .pre .0) in (omega (arith, v .positive, s .pre .0 .width), omega (arith, v .narrow, s .pre .0 .width))
 
 returns : tie.Need-returns
 returns c = let s = c .before .before .before .before .before in bound-refused _ _ _ _ (s .pre .0 .width) (c .before .bad-key .ensures) (c .if1 .taken)

@@ -1,0 +1,25 @@
+-- A batch that passed its tests has an encoding
+use Prim.Native.Nat.{ℕ, _*_}
+use lib.ListN.{drop}
+use Rattle.loes.specs.Bytes.{Bytes}
+use Rattle.loes.specs.Entry.{keyBytes, Valid}
+use Rattle.loes.specs.Model.{batchEntry}
+use Rattle.loes.proofs.Histories.{length-key}
+use Rattle.pack.specs.Packing.{Made}
+use Rattle.pack.proofs.Grow.{below-wide}
+use Rattle.pack.proofs.Batches.{Clean, clean, keys, set-is}
+use Rattle.pack.specs.Batch.{key}
+
+module _ (m : ℕ) (l old new : Bytes) (b : ℕ) (made : Made m l old new b) where
+  passed : Clean m l
+  passed = clean m l (made .accepted)
+
+  pub made-valid : Valid (batchEntry m l)
+  unfolding batchEntry
+  made-valid =
+      record {
+        positive = passed .batch .positive;
+        narrow = passed .batch .narrow;
+        sized = λ k h. below-wide m (key m l) (λ i. length-key m (drop (keyBytes m * i) l)) (keys m l) k (rw (set-is m l) at h);
+        few = passed .few;
+      }

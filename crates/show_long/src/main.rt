@@ -1,4 +1,0 @@
-// Prints the encoding on standard input.
-fn main() {
-    printing::print_input();
-}
