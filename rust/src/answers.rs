@@ -1,6 +1,6 @@
 //! What the C interface answers, as Rust values.
 
-use crate::ffi::Answer;
+use crate::ffi::{self, Answer};
 use crate::Refusal;
 
 pub(crate) fn refusal(number: u64) -> Refusal {
@@ -13,9 +13,9 @@ pub(crate) fn refusal(number: u64) -> Refusal {
 /// A value, or none.
 pub(crate) fn option(answer: Answer) -> Result<Option<u64>, Refusal> {
     match answer.kind {
-        0 => Ok(Some(answer.value)),
-        1 => Ok(None),
-        2 => Err(refusal(answer.value)),
+        ffi::VALUE => Ok(Some(answer.value)),
+        ffi::ABSENT => Ok(None),
+        ffi::REFUSED => Err(refusal(answer.value)),
         other => panic!("the static library answered kind {other}: it is not the one this crate was made for"),
     }
 }

@@ -1,4 +1,4 @@
-use crate::{answers, ffi, Encoding, Refusal};
+use crate::{answers, ffi, Refusal};
 
 /// Where a [`Cursor`] stands.
 ///
@@ -10,11 +10,11 @@ use crate::{answers, ffi, Encoding, Refusal};
 #[derive(Clone, Copy, Debug, PartialEq, Eq, Hash)]
 pub enum State {
     /// Before the first member.
-    Before = 0,
+    Before = ffi::BEFORE as isize,
     /// At a member.
-    At = 1,
+    At = ffi::AT as isize,
     /// After the last member.
-    After = 2,
+    After = ffi::AFTER as isize,
 }
 
 /// A place in a walk over an encoding's members: before, at a member with one edge offset for each level, or after.
@@ -36,7 +36,7 @@ pub enum State {
 #[derive(Clone, Debug, PartialEq, Eq)]
 pub struct Cursor {
     pub(crate) state: State,
-    pub(crate) offsets: [u64; Encoding::MAX_WIDTH as usize],
+    pub(crate) offsets: [u64; ffi::OFFSETS],
 }
 
 impl Cursor {
@@ -48,7 +48,7 @@ impl Cursor {
     /// assert_eq!(cursor, Cursor::from_parts(State::Before, [0; 256]));
     /// ```
     pub const fn new() -> Cursor {
-        Cursor { state: State::Before, offsets: [0; Encoding::MAX_WIDTH as usize] }
+        Cursor { state: State::Before, offsets: [0; ffi::OFFSETS] }
     }
 
     /// A cursor of a state and offsets, as [`state`](Cursor::state) and [`offsets`](Cursor::offsets) tell them. Anything may be
@@ -61,7 +61,7 @@ impl Cursor {
     /// assert_eq!(Encoding::open(&bytes)?.advance(&mut cursor, &mut [0]), Err(Refusal::BadCursor));
     /// # Ok::<(), loes::Refusal>(())
     /// ```
-    pub const fn from_parts(state: State, offsets: [u64; 256]) -> Cursor {
+    pub const fn from_parts(state: State, offsets: [u64; ffi::OFFSETS]) -> Cursor {
         Cursor { state, offsets }
     }
 
@@ -85,16 +85,16 @@ impl Cursor {
     /// assert_eq!(cursor.offsets()[..4], [0, 3, 5, 0]);
     /// # Ok::<(), loes::Refusal>(())
     /// ```
-    pub const fn offsets(&self) -> &[u64; 256] {
+    pub const fn offsets(&self) -> &[u64; ffi::OFFSETS] {
         &self.offsets
     }
 
     /// Takes the state that a step has left, and tells how many bytes it wrote.
     pub(crate) fn stepped(&mut self, step: ffi::Step) -> Result<usize, Refusal> {
         self.state = match step.state {
-            0 => State::Before,
-            1 => State::At,
-            2 => State::After,
+            ffi::BEFORE => State::Before,
+            ffi::AT => State::At,
+            ffi::AFTER => State::After,
             other => panic!("the static library answered a cursor state {other}: it is not the one this crate was made for"),
         };
         answers::length(ffi::Answer { kind: step.kind, value: step.value })

@@ -7,9 +7,31 @@
 //! - the calls behind the check require what `loes_open` answered for the same bytes: a `Checked` is made by `open` only
 //!   and borrows those bytes, so they cannot change while it lives;
 //! - the step that does not test its cursor requires a right one: a `Walk` starts before the first member, and only its own
-//!   steps change its cursor.
+//!   steps change its cursor, none of which is refused 15.
 
-/// `kind`: 0 value, 1 absent or none, 2 refused.
+use crate::Encoding;
+
+#[cfg(not(target_arch = "x86_64"))]
+compile_error!("the static library is made for x86-64");
+
+/// The kinds of an answer.
+pub const VALUE: u64 = 0;
+/// Absent, or none.
+pub const ABSENT: u64 = 1;
+/// Refused.
+pub const REFUSED: u64 = 2;
+
+/// The states of a cursor.
+pub const BEFORE: u64 = 0;
+/// At a member.
+pub const AT: u64 = 1;
+/// After the last member.
+pub const AFTER: u64 = 2;
+
+/// The offsets of a cursor, one for each level that there can be.
+pub const OFFSETS: usize = Encoding::MAX_WIDTH as usize;
+
+/// `kind` is one of the three; a refusal's number is the value.
 #[repr(C)]
 #[derive(Clone, Copy, Debug, PartialEq, Eq)]
 pub struct Answer {
@@ -69,7 +91,7 @@ pub struct Checked<'a> {
 pub fn open(bytes: &[u8]) -> Result<Checked<'_>, u64> {
     let opened = unsafe { loes_open(bytes.as_ptr(), bytes.len()) };
     match opened.kind {
-        0 => Ok(Checked { opened, bytes }),
+        VALUE => Ok(Checked { opened, bytes }),
         _ => Err(opened.width),
     }
 }
@@ -149,7 +171,7 @@ impl<'a> Checked<'a> {
     }
 
     pub fn walk(&self) -> Walk<'a> {
-        Walk { checked: *self, state: 0, offsets: [0; 256] }
+        Walk { checked: *self, state: BEFORE, offsets: [0; OFFSETS] }
     }
 }
 
@@ -158,7 +180,7 @@ impl<'a> Checked<'a> {
 pub struct Walk<'a> {
     checked: Checked<'a>,
     state: u64,
-    offsets: [u64; 256],
+    offsets: [u64; OFFSETS],
 }
 
 impl Walk<'_> {
@@ -166,7 +188,7 @@ impl Walk<'_> {
         self.state
     }
 
-    pub fn offsets(&self) -> &[u64; 256] {
+    pub fn offsets(&self) -> &[u64; OFFSETS] {
         &self.offsets
     }
 

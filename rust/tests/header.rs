@@ -1,5 +1,6 @@
 //! The C header, compiled by a C compiler (`cc`, or the one that CC names) and linked with the library.
 
+use loes::Encoding;
 use std::path::Path;
 use std::process::Command;
 
@@ -18,5 +19,15 @@ fn the_header_is_right() {
         .status();
     assert!(status.unwrap_or_else(|error| panic!("{compiler}: {error}")).success(), "the header does not compile or link");
     let output = Command::new(&program).output().unwrap();
-    assert_eq!(String::from_utf8_lossy(&output.stdout), "right\n", "{}", String::from_utf8_lossy(&output.stderr));
+    let numbers = [
+        Encoding::MAX_WIDTH,
+        Encoding::MAX_EDGES,
+        Encoding::BLOCK_BITS,
+        Encoding::SUB_BLOCK_BITS,
+        Encoding::MAX_BYTES as u64,
+        Encoding::MAX_WIDTH / 8,
+        Encoding::MAX_WIDTH,
+    ];
+    let right = format!("{}\nright\n", numbers.map(|number| number.to_string()).join(" "));
+    assert_eq!(String::from_utf8_lossy(&output.stdout), right, "{}", String::from_utf8_lossy(&output.stderr));
 }

@@ -3,7 +3,7 @@ ghost use Prim.Native.Nat.{ℕ, _+_, _-_, _*_, _/_, _%_, _^_, _<_, _≤_};
 ghost use mathlib.Core.Path.{_≡_};
 ghost use mathlib.Core.List.{[], _∷_, _++_};
 ghost use lib.ListN.{length, getD};
-ghost use Rattle.loes.specs.Limits.{maxWidth, maxEdges, blockBits, subBlockBits};
+ghost use Rattle.loes.specs.Limits.{maxWidth, maxEdges, blockBits, subBlockBits, subBlocks};
 ghost use Rattle.loes.specs.Bytes.{bigEndian, bigEndians, started, bitsIn, front};
 ghost use Rattle.loes.specs.Edges.{ones};
 ghost use Rattle.loes.specs.Encode.{field, blockOnes, subBlockOnes};
@@ -18,15 +18,16 @@ use encoding::Encoding;
 const BLOCK_BYTES: usize = Encoding::BLOCK_BITS / 8;
 
 const SUB_BLOCK_BYTES: usize = Encoding::SUB_BLOCK_BITS / 8;
-// What is added to round a count of them up.
+
+const SUB_BLOCKS: usize = Encoding::BLOCK_BITS / Encoding::SUB_BLOCK_BITS;
+
+// What is added to an edge count to round its blocks and sub-blocks up.
 const BLOCK_REST: usize = Encoding::BLOCK_BITS - 1;
 
 const SUB_BLOCK_REST: usize = Encoding::SUB_BLOCK_BITS - 1;
 
-const SUB_BLOCKS: usize = Encoding::BLOCK_BITS / Encoding::SUB_BLOCK_BITS;
-
 // A number in 2 bytes at the front of a buffer.
-pub fn put2(out: &mut [u8], n: usize)
+fn put2(out: &mut [u8], n: usize)
     requires { ⌜ 2 ≤ length (now out) ⌝ }
     ensures { λ _. ⌜ now (out .exit) ≡ front (bigEndian 2 n) (now (out .entry)) ⌝ }
 {
@@ -35,7 +36,7 @@ pub fn put2(out: &mut [u8], n: usize)
 }
 
 // The same in 4 bytes.
-pub fn put4(out: &mut [u8], n: usize)
+fn put4(out: &mut [u8], n: usize)
     requires { ⌜ 4 ≤ length (now out) ⌝ }
     ensures { λ _. ⌜ now (out .exit) ≡ front (bigEndian 4 n) (now (out .entry)) ⌝ }
 {
@@ -45,8 +46,17 @@ pub fn put4(out: &mut [u8], n: usize)
     out[3] = (n % 256) as u8;
 }
 
+// The same in 8 bytes.
+fn put8(out: &mut [u8], n: usize)
+    requires { ⌜ (8 ≤ length (now out)) × (n < 2 ^ 32) ⌝ }
+    ensures { λ _. ⌜ now (out .exit) ≡ front (bigEndian 8 n) (now (out .entry)) ⌝ }
+{
+    put4(out, 0);
+    put4(&mut out[4..], n);
+}
+
 // A field's tag and length.
-pub fn put_head(out: &mut [u8], tag: u8, n: usize)
+fn put_head(out: &mut [u8], tag: u8, n: usize)
     requires { ⌜ 3 ≤ length (now out) ⌝ }
     ensures { λ _. ⌜ now (out .exit) ≡ front (tag ∷ bigEndian 2 n) (now (out .entry)) ⌝ }
 {
@@ -55,17 +65,8 @@ pub fn put_head(out: &mut [u8], tag: u8, n: usize)
     out[2] = (n % 256) as u8;
 }
 
-// The same in 8 bytes.
-pub fn put8(out: &mut [u8], n: usize)
-    requires { ⌜ (8 ≤ length (now out)) × (n < 2 ^ 32) ⌝ }
-    ensures { λ _. ⌜ now (out .exit) ≡ front (bigEndian 8 n) (now (out .entry)) ⌝ }
-{
-    put4(out, 0);
-    put4(&mut out[4..], n);
-}
-
 // A whole field, from its body.
-pub fn put_field(out: &mut [u8], tag: u8, body: &[u8])
+fn put_field(out: &mut [u8], tag: u8, body: &[u8])
     requires { ⌜ 3 + length (now body) ≤ length (now out) ⌝ }
     ensures { λ _. ⌜ now (out .exit) ≡ front (field tag (now (body .entry))) (now (out .entry)) ⌝ }
 {
@@ -165,7 +166,7 @@ fn put_blocks(out: &mut [u8], edges: &[u8], t: &[u16], b: usize)
 
 // The set bits before a sub-block's block: those before the sub-block if it is its first, else the same as before.
 fn block_base(j: usize, base: usize, ones: usize) -> usize
-    ensures { λ r. ⌜ (j % 128 ≡ 0 → r ≡ ones) × ((j % 128 ≡ 0 → ⊥) → r ≡ base) ⌝ }
+    ensures { λ r. ⌜ (j % subBlocks ≡ 0 → r ≡ ones) × ((j % subBlocks ≡ 0 → ⊥) → r ≡ base) ⌝ }
 {
     if j % SUB_BLOCKS == 0 { ones } else { base }
 }

@@ -24,7 +24,6 @@ use encoding::Checked;
 use encoding::Encoding;
 use encoding::Ranked;
 use loes::refusal::BAD_CURSOR;
-use loes::refusal::OUT_OF_RANGE;
 use query::Bound;
 use query::Lookup;
 use query::Membership;
@@ -321,11 +320,8 @@ pub extern "C" fn loes_opened_rank(e: Opened, l: &[u8], offset: usize) -> Answer
     requires { ⌜ Opens (now l) (encodingOf e) ⌝ }
     ensures { λ r. ⌜ gives r [] ≡ coded (rankCall (now (l .entry)) offset) ⌝ }
 {
-    if e.bits <= offset {
-        return refused(OUT_OF_RANGE);
-    }
     let t = bits::tallies();
-    value(encoding::ones_before(l, &t, encoding_of(e), EdgeOffset(offset + 1)))
+    ranked(encoding::rank_in(l, &t, encoding_of(e), EdgeOffset(offset)))
 }
 
 // ---- The cursor

@@ -27,11 +27,11 @@ firstEdge e r = 2 * r + bit (not (getD e (2 * r) false))
 unfoldable pub behind : List Bool → ℕ → ℕ → ℕ → ℕ
 behind e t d q = cond (eqb d t) (q + 1) (firstEdge e (q / 2 + 1))
 
--- the path moved on: it turns on level t, and takes the next record below
+-- the path moved on: it turns on level t, and takes the next record on each greater level
 unfoldable pub movedOn : List Bool → ℕ → (ℕ → ℕ) → ℕ → ℕ
 movedOn e t f d = cond (ltb d t) (f d) (behind e t d (f d))
 
--- the lowest level on which a path turns, and 1; or 0 if it turns on none
+-- 1 more than the greatest level on which a path turns; 0 if it turns on none
 pub record TurnsAt (e : List Bool) (m : ℕ) (os : List ℕ) (r : ℕ) : Type 0 where
   pub most : r ≤ m
   pub turn : 0 < r → turns e (getD os (r - 1) 0) ≡ true
@@ -43,7 +43,7 @@ pub record Moved (e : List Bool) (m t : ℕ) (os os' : List ℕ) : Type 0 where
   pub on : (j : ℕ) → j < m → getD os' j 0 ≡ movedOn e t (λ (i : ℕ). getD os i 0) j
   pub rest : (j : ℕ) → m ≤ j → getD os' j 0 ≡ getD os j 0
 
--- an offset on each level below t leaves room for a record behind its own
+-- the offset on level t is an edge's, and those on greater levels leave room for a record behind their own
 pub record Movable (b m t : ℕ) (os : List ℕ) : Type 0 where
   pub level : t < m
   pub room : m ≤ length os

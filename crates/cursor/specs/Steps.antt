@@ -35,9 +35,10 @@ stepAnswer (step.Wrote n) = wroteKey n
 abbrev pub walkedOf : Walked → List ℕ → Bytes → spec.Advanced
 walkedOf r os out = record { answer = stepAnswer (r .answer); buffer = out; cursor = at (stateOf (r .state)) os }
 
--- the answer, the output buffer and the cursor after a step by value
+-- after a step of a lent cursor: its answer, the output buffer and the cursor
 abbrev pub advancedOf : Step → Bytes → Cursor → spec.Advanced
 advancedOf r out c = record { answer = stepAnswer r; buffer = out; cursor = cursorOf c }
 
+-- the same after a step by value
 abbrev pub steppedOf : Stepped → Bytes → spec.Advanced
 steppedOf r out = advancedOf (r .answer) out (r .cursor)

@@ -20,6 +20,7 @@ use encoding::Encoding;
 use loes::refusal::BAD_CURSOR;
 use loes::refusal::SHORT_BUFFER;
 
+// Where a cursor stands.
 pub enum State {
     Before,
     At,
@@ -178,7 +179,7 @@ fn turns_on(l: &[u8], e: Encoding, o: EdgeOffset) -> bool
     encoding::edge_at(l, e, EdgeOffset(o.0 + 1))
 }
 
-// The lowest level on which a path turns, and 1; 0 if there is none.
+// 1 more than the greatest level on which a path turns; 0 if it turns on none.
 fn turn_level(l: &[u8], e: Encoding, path: &[usize]) -> usize
     requires { ⌜ Opens (now l) e × (e .width ≤ length (now path)) × ((j : ℕ) → j < e .width → getD (now path) j 0 < e .bits) ⌝ }
     ensures { λ r. ⌜ TurnsAt (edgesOf (entryIn (now (l .entry)))) (e .width) (now (path .entry)) r ⌝ }
@@ -207,7 +208,7 @@ fn first_edge(l: &[u8], e: Encoding, r: RecordIndex) -> EdgeOffset
     EdgeOffset(o + 1)
 }
 
-// The offset behind q on level d of a path that turns on level t: there the next one, below the first of the next record.
+// The offset behind q on level d of a path that turns on level t: there the next one, on greater levels the first of the next record.
 fn next_offset(l: &[u8], e: Encoding, t: usize, d: usize, q: EdgeOffset) -> EdgeOffset
     requires { ⌜ Opens (now l) e × (d ≡ t → q .0 < e .bits) × ((d ≡ t → ⊥) → 2 * (q .0 / 2 + 1) < e .bits) ⌝ }
     ensures { λ x. ⌜ x .0 ≡ behind (edgesOf (entryIn (now (l .entry)))) t d (q .0) ⌝ }
@@ -317,7 +318,7 @@ fn step_before(l: &[u8], t: &[u16], e: Encoding, path: &mut [usize], out: &mut [
     }
 }
 
-// From a right cursor, as every step leaves it: only 14 is tested. Only the first step counts set bits, so only it makes the table.
+// From a right cursor, as a step that was not refused 15 leaves it: only 14 is tested. Only the first step counts set bits, so only it makes the table.
 pub fn step_right(l: &[u8], e: Encoding, s: State, path: &mut [usize], out: &mut [u8]) -> Walked
     requires { ⌜ Opens (now l) e × (spec.isCursorOf (entryIn (now l)) (at (stateOf s) (now path)) ≡ true) ⌝ }
     ensures { λ r. ⌜ walkedOf r (now (path .exit)) (now (out .exit)) ≡ spec.advance (entryIn (now (l .entry))) (at (stateOf s) (now (path .entry))) (now (out .entry)) ⌝ }
@@ -372,8 +373,7 @@ pub fn advanced(l: &[u8], t: &[u16], e: Encoding, c: Cursor, out: &mut [u8]) -> 
     }
 }
 
-// ---- On bytes: the check first
-// The same, by value.
+// ---- On bytes: the check first, then the step by value
 pub fn advanced_call(l: &[u8], c: Cursor, out: &mut [u8]) -> Stepped
     ensures { λ r. ⌜ steppedOf r (now (out .exit)) ≡ spec.advanceCall (now (l .entry)) (cursorOf c) (now (out .entry)) ⌝ }
 {

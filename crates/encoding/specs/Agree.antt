@@ -3,7 +3,7 @@ use mathlib.Core.Path.{_≡_}
 use Prim.Native.Nat.{ℕ, suc, _+_, _*_, _/_, _%_, _^_, _-_, _<_}
 use mathlib.Core.Bool.{Bool, true}
 use lib.ListN.{getD, drop}
-use Rattle.loes.specs.Limits.{blockBits, subBlockBits}
+use Rattle.loes.specs.Limits.{blockBits, subBlockBits, subBlocks}
 use Rattle.loes.specs.Bytes.{Bytes, numberAt, bitsIn}
 use Rattle.loes.specs.Edges.{ones}
 use Rattle.loes.specs.Read.{start3}
@@ -17,10 +17,6 @@ use Rattle.encoding.specs.Opened.{edgesAt, Counted}
 -- a Bool that tells whether something holds
 abbrev pub Tells : Bool → Type 0 → Type 0
 Tells r P = (r ≡ true → P) × (P → r ≡ true)
-
--- the sub-blocks of a block
-abbrev pub subBlocks : ℕ
-subBlocks = blockBits / subBlockBits
 
 -- the entries of sub-block j and of its block, against n set bits before it
 abbrev pub EntriesAt : Bytes → Encoding → ℕ → ℕ → Type 0

@@ -4,7 +4,7 @@ use Prim.Native.Nat.{ℕ, _+_, _*_, _<_, _≤_}
 use mathlib.Core.Bool.{Bool}
 use mathlib.Core.List.{List}
 use lib.ListN.{length, drop}
-use Rattle.loes.specs.Limits.{maxWidth, maxEdges, blockBits, subBlockBits}
+use Rattle.loes.specs.Limits.{maxWidth, maxEdges, maxBytes, blockBits, subBlockBits}
 use Rattle.loes.specs.Bytes.{Bytes, numberAt, bitsIn}
 use Rattle.loes.specs.Entry.{count, edgeCount}
 use Rattle.loes.specs.Encode.{blockOnes, subBlockOnes}
@@ -38,7 +38,7 @@ edgesAt l e = bitsIn (drop (e .edges) l) (e .bits)
 pub record Room (l : Bytes) (e : Encoding) : Type 0 where
   pub narrow : e .width ≤ maxWidth
   pub few : e .bits ≤ maxEdges
-  pub bytes : length l ≤ 68695
+  pub bytes : length l ≤ maxBytes
   pub levels : start3 + 3 + levelBytes (e .width) ≤ length l
   pub edges : e .edges + edgeBytes (e .bits) ≤ length l
   pub blocks : e .blocks + blockBytes (e .bits) ≤ length l

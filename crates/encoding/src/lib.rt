@@ -21,7 +21,7 @@ use bits::EMPTY_RECORD;
 use bits::EdgeOffset;
 use loes::refusal;
 
-// The numbers of an encoding, and where the bodies of fields 4 to 6 begin.
+// An opened encoding (document 01: an opened book): its numbers, and where the bodies of fields 4 to 6 begin.
 pub struct Encoding {
     // m
     pub width: usize,
@@ -416,17 +416,23 @@ pub enum Ranked {
     Rank(usize),
 }
 
+// Behind the check.
+pub fn rank_in(l: &[u8], t: &[u16], e: Encoding, o: EdgeOffset) -> Ranked
+    requires { ⌜ Opens (now l) e × Tallies (now t) ⌝ }
+    ensures { λ r. ⌜ rankedOutcome r ≡ rankCall (now (l .entry)) (o .0) ⌝ }
+{
+    if e.bits <= o.0 {
+        return Ranked::Refused(refusal::OUT_OF_RANGE);
+    }
+    Ranked::Rank(ones_before(l, t, e, EdgeOffset(o.0 + 1)))
+}
+
 pub fn rank(l: &[u8], o: EdgeOffset) -> Ranked
     ensures { λ r. ⌜ rankedOutcome r ≡ rankCall (now (l .entry)) (o .0) ⌝ }
 {
     let t = bits::tallies();
     match check(l, &t) {
         Checked::Refused(k) => Ranked::Refused(k),
-        Checked::Opened(e) => {
-            if e.bits <= o.0 {
-                return Ranked::Refused(refusal::OUT_OF_RANGE);
-            }
-            Ranked::Rank(ones_before(l, &t, e, EdgeOffset(o.0 + 1)))
-        }
+        Checked::Opened(e) => rank_in(l, &t, e, o),
     }
 }

@@ -50,7 +50,23 @@ pub record Joined (m k : ℕ) (l : Bytes) : Type 0 where
   pub same : edgesOf (held m k l) ≡ bitsIn l k
   pub whole : take (started 8 k) l ≡ packBits (bitsIn l k)
 
+-- the rooms: for encodings of at most so many bytes, and for any two
+abbrev pub small : ℕ
+small = 2048
+
+abbrev pub smallQueue : ℕ
+smallQueue = 8256
+
+abbrev pub smallEdges : ℕ
+smallEdges = 4160
+
+abbrev pub largeQueue : ℕ
+largeQueue = 262144
+
+abbrev pub largeEdges : ℕ
+largeEdges = 131072
+
 -- room in a queue and for merged edges, for whatever two encodings of these lengths have
 pub record Rooms (x y : ℕ) (q l : Bytes) : Type 0 where
   pub enough : (ba bb : ℕ) → ba ≤ 8 * x → ba ≤ maxEdges → bb ≤ 8 * y → bb ≤ maxEdges → Room ba bb q l
-  pub bounded : length l ≤ 131072
+  pub bounded : length l ≤ largeEdges

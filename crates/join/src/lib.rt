@@ -11,7 +11,7 @@ ghost use Rattle.bits.specs.Tables.{Tallies};
 ghost use Rattle.build.specs.Writing.{writtenOutcome};
 ghost use Rattle.merge.specs.Records.{Written as Collected};
 ghost use Rattle.merge.specs.Union.{Room};
-ghost use Rattle.join.specs.Joining.{pairOf, Both, joinOf, Joined, Rooms, joinCall};
+ghost use Rattle.join.specs.Joining.{pairOf, Both, joinOf, Joined, small, smallQueue, smallEdges, largeQueue, largeEdges, Rooms, joinCall};
 use build::Written;
 use encoding::Checked;
 use encoding::Encoding;
@@ -84,7 +84,7 @@ fn joined_edges(
 
 // Writes the entry that k edge bits hold: 5, then 14.
 fn write_joined(m: usize, k: usize, edges: &[u8], t: &[u16], out: &mut [u8]) -> Written
-    requires { ⌜ Joined m k (now edges) × Tallies (now t) × (length (now edges) ≤ 131072) ⌝ }
+    requires { ⌜ Joined m k (now edges) × Tallies (now t) × (length (now edges) ≤ largeEdges) ⌝ }
     ensures { λ r. ⌜ writtenOutcome r (now (out .exit)) ≡ writes [] (held m k (now (edges .entry)) ∷ []) (now (out .entry) ∷ []) .outcome ⌝ }
 {
     if k > Encoding::MAX_EDGES {
@@ -136,37 +136,37 @@ const SMALL_QUEUE: usize = 4 * SMALL + 64;
 
 const SMALL_EDGES: usize = 2 * SMALL + 64;
 
-// For any two encodings.
+// For any two encodings: as many flags as both have edges and one more, four to a byte; and as many edges.
 const QUEUE: usize = 262144;
 
 const EDGES: usize = 131072;
 
 fn small_queue() -> [u8; SMALL_QUEUE]
-    ensures { λ r. ⌜ length r ≡ 8256 ⌝ }
+    ensures { λ r. ⌜ length r ≡ smallQueue ⌝ }
 {
     [0; SMALL_QUEUE]
 }
 
 fn small_edges() -> [u8; SMALL_EDGES]
-    ensures { λ r. ⌜ length r ≡ 4160 ⌝ }
+    ensures { λ r. ⌜ length r ≡ smallEdges ⌝ }
 {
     [0; SMALL_EDGES]
 }
 
 fn large_queue() -> [u8; QUEUE]
-    ensures { λ r. ⌜ length r ≡ 262144 ⌝ }
+    ensures { λ r. ⌜ length r ≡ largeQueue ⌝ }
 {
     [0; QUEUE]
 }
 
 fn large_edges() -> [u8; EDGES]
-    ensures { λ r. ⌜ length r ≡ 131072 ⌝ }
+    ensures { λ r. ⌜ length r ≡ largeEdges ⌝ }
 {
     [0; EDGES]
 }
 
 fn join_small(kind: Join, a: &[u8], b: &[u8], t: &[u16], out: &mut [u8]) -> Written
-    requires { ⌜ (length (now a) ≤ 2048) × (length (now b) ≤ 2048) × Tallies (now t) ⌝ }
+    requires { ⌜ (length (now a) ≤ small) × (length (now b) ≤ small) × Tallies (now t) ⌝ }
     ensures { λ r. ⌜ writtenOutcome r (now (out .exit)) ≡ joinCall (joinOf kind) (now (a .entry)) (now (b .entry)) (now (out .entry)) ⌝ }
 {
     let mut q = small_queue();

@@ -4,7 +4,7 @@ use mathlib.Core.Bool.{Bool, false}
 use mathlib.Core.List.{List, [], _∷_, _++_}
 use native.Mathlib.Omega.{arith}
 use lib.ListN.{length, getD}
-use Rattle.loes.specs.Limits.{blockBits, subBlockBits}
+use Rattle.loes.specs.Limits.{maxWidth, maxEdges, maxBytes, blockBits, subBlockBits}
 use Rattle.loes.specs.Bytes.{Bytes, tabulate, join, started, bigEndian, bigEndians, byteOf, packBits}
 use Rattle.loes.specs.Entry.{Entry, count, edgesOf, edgeCount, Valid}
 use Rattle.loes.specs.Encode.{field, blockOnes, subBlockOnes, levelEnd, widthBody, countBody, levelBody, edgeBody, blockBody, subBlockBody, encode}
@@ -52,16 +52,16 @@ encode-bytes e =
     (bytes-append (field 5 (blockBody e)) _ (bytes-field 5 (blockBody e) (omega arith) (bytes-numbers 8 (blockOnes (edgesOf e)) (started blockBits (edgeCount e))))
     (bytes-append (field 6 (subBlockBody e)) [] (bytes-field 6 (subBlockBody e) (omega arith) (bytes-numbers 2 (subBlockOnes (edgesOf e)) (started subBlockBits (edgeCount e)))) tt)))))
 
-pub end-most : (m b : ℕ) → m ≤ 256 → b ≤ 524280 → endOf m b ≤ 68695
+pub end-most : (m b : ℕ) → m ≤ maxWidth → b ≤ maxEdges → endOf m b ≤ maxBytes
 unfolding endOf start6 start5 start4 started
 end-most m b h g = omega arith
 
 -- the longest encoding
-pub encode-most : (e : Entry) → Valid e → length (encode e) ≤ 68695
+pub encode-most : (e : Entry) → Valid e → length (encode e) ≤ maxBytes
 encode-most e v = rw (encode-length e) (end-most (e .width) (edgeCount e) (v .narrow) (v .few))
 
 -- whatever the calls of a history are given, each encoding that it stores is at most 68,695 bytes
 pub store-lent : (h : List Call) (i : ℕ) → i < length (storeAfter h)
-    → AllBytes (getD (storeAfter h) i []) × (length (getD (storeAfter h) i []) ≤ 68695)
+    → AllBytes (getD (storeAfter h) i []) × (length (getD (storeAfter h) i []) ≤ maxBytes)
 store-lent h i l =
     rw (encodings-agree h i l) (encode-bytes (getD (modelAfter h) i noEntry), encode-most (getD (modelAfter h) i noEntry) (entry-valid h i l))

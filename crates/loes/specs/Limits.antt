@@ -1,5 +1,5 @@
 -- The numbers that belong to the format.
-use Prim.Native.Nat.{ℕ}
+use Prim.Native.Nat.{ℕ, _/_}
 
 -- the greatest width of a key, in bits
 abbrev pub maxWidth : ℕ
@@ -15,3 +15,11 @@ blockBits = 65536
 
 abbrev pub subBlockBits : ℕ
 subBlockBits = 512
+
+-- the sub-blocks of a block
+abbrev pub subBlocks : ℕ
+subBlocks = blockBits / subBlockBits
+
+-- no encoding is longer (`end-most`)
+abbrev pub maxBytes : ℕ
+maxBytes = 68695

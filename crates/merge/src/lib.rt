@@ -1,3 +1,4 @@
+// Edge bytes of a union, of a difference and of any subset, record by record.
 ghost use Prim.Native.Nat.{_+_, _-_, _*_, _/_, _%_, _<_, _≤_};
 ghost use mathlib.Core.Path.{_≡_};
 ghost use mathlib.Core.Bool.{true, _&&_};
@@ -16,7 +17,7 @@ ghost use Rattle.merge.specs.Restriction.{restricted, flagMask, Flagged,
 // ---- Records in bytes, as numbers 2·onZero + onOne
 
 // Record i of bytes.
-pub fn record_at(l: &[u8], i: usize) -> u8
+fn record_at(l: &[u8], i: usize) -> u8
     requires { ⌜ i / 4 < length (now l) ⌝ }
     ensures { λ r. ⌜ (recordOfCode r ≡ recordAt (now (l .entry)) i) × (r < 4) ⌝ }
 {
@@ -25,7 +26,7 @@ pub fn record_at(l: &[u8], i: usize) -> u8
 }
 
 // The same if f is odd, else a record with no edge.
-pub fn record_if(f: u8, l: &[u8], i: usize) -> u8
+fn record_if(f: u8, l: &[u8], i: usize) -> u8
     requires { ⌜ (odd f ≡ true → i / 4 < length (now l)) ⌝ }
     ensures { λ r. ⌜ (recordOfCode r ≡ takenRecord (odd f) (now (l .entry)) i) × (r < 4) ⌝ }
 {
@@ -33,7 +34,7 @@ pub fn record_if(f: u8, l: &[u8], i: usize) -> u8
 }
 
 // A byte with its record k set to z.
-pub fn with_record(old: u8, k: usize, z: u8) -> u8
+fn with_record(old: u8, k: usize, z: u8) -> u8
     requires { ⌜ (k < 4) × (z < 4) ⌝ }
     ensures { λ r. ⌜ r ≡ withRecord old k z ⌝ }
 {
@@ -43,7 +44,7 @@ pub fn with_record(old: u8, k: usize, z: u8) -> u8
 }
 
 // Record i of bytes is set to z.
-pub fn put_record(out: &mut [u8], i: usize, z: u8)
+fn put_record(out: &mut [u8], i: usize, z: u8)
     requires { ⌜ (i / 4 < length (now out)) × (z < 4) ⌝ }
     ensures { λ _. ⌜ Put i z (now (out .entry)) (now (out .exit)) ⌝ }
 {
@@ -53,7 +54,7 @@ pub fn put_record(out: &mut [u8], i: usize, z: u8)
 }
 
 // Record z is put behind the first n, which grow by it if it has an edge.
-pub fn push(out: &mut [u8], n: usize, z: u8) -> usize
+fn push(out: &mut [u8], n: usize, z: u8) -> usize
     requires { ⌜ (n < 4 * length (now out)) × (z < 4) × (n ≤ 4 * maxEdges) ⌝ }
     ensures { λ r. ⌜ Pushed n z (now (out .entry)) (now (out .exit)) r ⌝ }
 {
@@ -62,7 +63,7 @@ pub fn push(out: &mut [u8], n: usize, z: u8) -> usize
 }
 
 // The records behind the first k, up to the end of their byte, are cleared.
-pub fn seal(out: &mut [u8], k: usize)
+fn seal(out: &mut [u8], k: usize)
     requires { ⌜ (k ≤ 4 * length (now out)) × (k ≤ 4 * maxEdges) ⌝ }
     ensures { λ _. ⌜ Sealed k (now (out .entry)) (now (out .exit)) ⌝ }
 {
@@ -76,7 +77,7 @@ pub fn seal(out: &mut [u8], k: usize)
 // ---- Merge
 
 // The edges of either record.
-pub fn either_record(x: u8, y: u8) -> u8
+fn either_record(x: u8, y: u8) -> u8
     requires { ⌜ (x < 4) × (y < 4) ⌝ }
     ensures { λ r. ⌜ (recordOfCode r ≡ eitherRecord (recordOfCode x) (recordOfCode y)) × (r < 4) ⌝ }
 {
@@ -84,7 +85,7 @@ pub fn either_record(x: u8, y: u8) -> u8
 }
 
 // The flags of the edges of two records are put behind the first n of the queue.
-pub fn push_children(q: &mut [u8], n: usize, x: u8, y: u8) -> usize
+fn push_children(q: &mut [u8], n: usize, x: u8, y: u8) -> usize
     requires { ⌜ (n + 2 ≤ 4 * length (now q)) × (x < 4) × (y < 4) × (n < 4 * maxEdges) ⌝ }
     ensures { λ r. ⌜ Queued n (childFlags (recordOfCode x) (recordOfCode y)) (now (q .entry)) (now (q .exit)) r ⌝ }
 {
@@ -100,7 +101,7 @@ pub struct Marks {
 }
 
 // Record i of the union: the records taken as its flag says, their edges, and a flag for each.
-pub fn merge_record(a: &[u8], b: &[u8], q: &mut [u8], out: &mut [u8], i: usize, at: Marks) -> Marks
+fn merge_record(a: &[u8], b: &[u8], q: &mut [u8], out: &mut [u8], i: usize, at: Marks) -> Marks
     requires { ⌜ (i < 4 * length (now q)) × (i < 4 * length (now out)) × (at .tail + 2 ≤ 4 * length (now q)) × (length (now q) ≤ maxEdges) ⌝ }
     requires { ⌜ (flagAt (now q) i .inFirst ≡ true → at .a < 4 * length (now a)) ⌝ }
     requires { ⌜ (flagAt (now q) i .inSecond ≡ true → at .b < 4 * length (now b)) ⌝ }
@@ -126,14 +127,7 @@ pub fn merge_record(a: &[u8], b: &[u8], q: &mut [u8], out: &mut [u8], i: usize, 
 }
 
 // A level of the union: its flags are in the queue from `from` on to the end.
-pub fn merge_level(
-    a: &[u8],
-    b: &[u8],
-    q: &mut [u8],
-    out: &mut [u8],
-    from: usize,
-    start: Marks,
-) -> Marks
+fn merge_level(a: &[u8], b: &[u8], q: &mut [u8], out: &mut [u8], from: usize, start: Marks) -> Marks
     requires { ⌜ LevelRoom (now a) (now b) (now q) (now out) from (start .a) (start .b) (start .tail) (flagsFrom (now q) from (start .tail - from)) ⌝ }
     ensures { λ r. ⌜ LevelMerged (now (a .entry)) (now (b .entry)) (now (q .entry)) (now (out .entry)) from (start .a) (start .b) (start .tail) (flagsFrom (now (q .entry)) from (start .tail - from)) (now (q .exit)) (now (out .exit)) (r .a) (r .b) (r .tail) ⌝ }
 {
@@ -148,7 +142,7 @@ pub fn merge_level(
 }
 
 // 1 if there is any, else 0.
-pub fn present(n: usize) -> u8
+fn present(n: usize) -> u8
     ensures { λ r. ⌜ (r ≡ bit (ltb 0 n)) × (r ≤ 1) ⌝ }
 {
     if n > 0 { 1 } else { 0 }
@@ -199,7 +193,7 @@ pub fn merge(
 // ---- Restrict
 
 // 1 if the record has an edge, else 0.
-pub fn has_edge(x: u8) -> u8
+fn has_edge(x: u8) -> u8
     requires { ⌜ x < 4 ⌝ }
     ensures { λ r. ⌜ (r ≡ bit (hasEdge (recordOfCode x))) × (r ≤ 1) ⌝ }
 {
@@ -207,14 +201,14 @@ pub fn has_edge(x: u8) -> u8
 }
 
 // 1 if the flag is w, else 0.
-pub fn is_flag(x: u8, w: u8) -> u8
+fn is_flag(x: u8, w: u8) -> u8
     ensures { λ r. ⌜ (r ≡ bit (eqb x w)) × (r ≤ 1) ⌝ }
 {
     if x == w { 1 } else { 0 }
 }
 
 // 1 if entry j is kept: a record with an edge left, or a member whose flag is w.
-pub fn entry(q: &[u8], r: usize, w: u8, j: usize) -> u8
+fn entry(q: &[u8], r: usize, w: u8, j: usize) -> u8
     requires { ⌜ j < 4 * length (now q) ⌝ }
     ensures { λ k. ⌜ (k ≡ bit (keptAt w (now (q .entry)) r j)) × (k ≤ 1) ⌝ }
 {
@@ -223,7 +217,7 @@ pub fn entry(q: &[u8], r: usize, w: u8, j: usize) -> u8
 }
 
 // The same if f is odd, else 0.
-pub fn entry_if(f: u8, q: &[u8], r: usize, w: u8, j: usize) -> u8
+fn entry_if(f: u8, q: &[u8], r: usize, w: u8, j: usize) -> u8
     requires { ⌜ (odd f ≡ true → j < 4 * length (now q)) ⌝ }
     ensures { λ k. ⌜ (k ≡ bit (odd f && keptAt w (now (q .entry)) r j)) × (k ≤ 1) ⌝ }
 {
@@ -231,7 +225,7 @@ pub fn entry_if(f: u8, q: &[u8], r: usize, w: u8, j: usize) -> u8
 }
 
 // Record i of q: record x less the edges that are not kept, whose entries are from c on.
-pub fn mark_record(q: &mut [u8], r: usize, w: u8, x: u8, i: usize, c: usize)
+fn mark_record(q: &mut [u8], r: usize, w: u8, x: u8, i: usize, c: usize)
     requires { ⌜ (c + x / 2 + x % 2 ≤ 4 * length (now q)) × (x < 4) × (i < 4 * length (now q)) × (length (now q) ≤ maxEdges) ⌝ }
     ensures { λ _. ⌜ RecordMarked w (now (q .entry)) r x i c (now (q .exit)) ⌝ }
 {
@@ -242,7 +236,7 @@ pub fn mark_record(q: &mut [u8], r: usize, w: u8, x: u8, i: usize, c: usize)
 }
 
 // The r records of e less the edges under which no member has flag w, from the last to the first, in the first r places of q.
-pub fn mark(e: &[u8], q: &mut [u8], r: usize, n: usize, w: u8)
+fn mark(e: &[u8], q: &mut [u8], r: usize, n: usize, w: u8)
     requires { ⌜ (r ≤ 4 * length (now e)) × (r + n ≤ 4 * length (now q)) × (length (now q) ≤ maxEdges) ⌝ }
     requires { ⌜ Entries (now e) r n ⌝ }
     ensures { λ _. ⌜ Marked w (now (e .entry)) (now (q .entry)) r n (now (q .exit)) ⌝ }
@@ -260,7 +254,7 @@ pub fn mark(e: &[u8], q: &mut [u8], r: usize, n: usize, w: u8)
 }
 
 // The first r records of q that have an edge, moved together.
-pub fn compact(q: &[u8], r: usize, out: &mut [u8]) -> usize
+fn compact(q: &[u8], r: usize, out: &mut [u8]) -> usize
     requires { ⌜ (r ≤ 4 * length (now q)) × (r ≤ 4 * maxEdges) × (length (filter hasEdge (recordsTo (now q) r)) < 4 * length (now out)) ⌝ }
     ensures { λ k. ⌜ Compacted (now (q .entry)) r (now (out .entry)) (now (out .exit)) k ⌝ }
 {
@@ -275,7 +269,7 @@ pub fn compact(q: &[u8], r: usize, out: &mut [u8]) -> usize
 }
 
 // The same, and what is left of their last byte cleared: how many bits they are.
-pub fn collect(q: &[u8], r: usize, out: &mut [u8]) -> usize
+fn collect(q: &[u8], r: usize, out: &mut [u8]) -> usize
     requires { ⌜ (r ≤ 4 * length (now q)) × (r ≤ 4 * maxEdges) × (length (filter hasEdge (recordsTo (now q) r)) < 4 * length (now out)) ⌝ }
     ensures { λ b. ⌜ Written (recordBits (filter hasEdge (recordsTo (now (q .entry)) r))) (now (out .entry)) (now (out .exit)) b × (b ≤ 2 * r) ⌝ }
 {
@@ -303,7 +297,7 @@ pub fn restrict(
     collect(q, r, out)
 }
 
-// ---- Union and difference
+// ---- Difference
 
 // The flag of the members that only the first set has.
 const FIRST_ONLY: u8 = 1;

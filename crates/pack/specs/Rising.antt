@@ -17,7 +17,7 @@ commonPrefix [] k = 0
 commonPrefix (a ∷ j) [] = 0
 commonPrefix (a ∷ j) (b ∷ k) = cond (sameBit a b) (suc (commonPrefix j k)) 0
 
--- of keys f 0, f 1, …: the least length of which f i has a prefix that none before it has, since keys rise
+-- of keys f 0, f 1, … that rise: the least length of which f i has a prefix that none before it has; one more than all its bits if it equals the one before
 unfoldable pub firstNew : (ℕ → Key) → ℕ → ℕ
 firstNew f zero = 0
 firstNew f (suc i) = suc (commonPrefix (f i) (f (suc i)))

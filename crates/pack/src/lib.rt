@@ -1,4 +1,4 @@
-// A batch of keys made to edge bytes: what packing does before an encoding is written.
+// A sorted batch of keys made to edge bytes, and the call pack.
 ghost use mathlib.Core.Path.{_≡_};
 ghost use Prim.Native.Nat.{ℕ, _+_, _-_, _*_, _/_, _^_, _<_, _≤_};
 ghost use lib.ListN.{length, getD, replicate};
@@ -72,7 +72,7 @@ fn common_prefix(x: &[u8], y: &[u8], m: usize) -> usize
     m
 }
 
-// The least length of which key i has a prefix that no key before it has.
+// The least length of which key i has a prefix that no key before it has; m + 1 if it equals the key before it.
 fn first_new(batch: &[u8], i: usize, t: usize, m: usize) -> usize
     requires { ⌜ KeyThere m t i (now batch) ⌝ }
     ensures { λ r. ⌜ r ≡ firstNew (key m (now (batch .entry))) i ⌝ }
@@ -276,7 +276,7 @@ fn fill(batch: &[u8], m: usize, levels: &mut [usize], edges: &mut [u8])
 }
 
 // Puts the edges of a batch's set to the front of a buffer, and tells how many bits they are; or refuses with 4, 10, then key by key 11 and 12, then 5.
-pub fn batch_edges(m: usize, batch: &[u8], edges: &mut [u8]) -> Checked
+fn batch_edges(m: usize, batch: &[u8], edges: &mut [u8]) -> Checked
     requires { ⌜ maxEdges / 8 ≤ length (now edges) ⌝ }
     ensures { λ r. ⌜ BatchEdges m (now (batch .entry)) (now (edges .entry)) (now (edges .exit)) r ⌝ }
 {

@@ -1,7 +1,9 @@
 // Prints an encoding: a line of its numbers, then a line for each member, its index and its key's bytes.
-ghost use Prim.Native.Nat.{_≤_};
+ghost use Prim.Native.Nat.{_/_, _≤_};
+ghost use Rattle.loes.specs.Limits.{maxWidth};
 ghost use Rattle.bits.specs.Tables.{Tallies};
 ghost use Rattle.encoding.specs.Opened.{Opens};
+use bits::MemberIndex;
 use cursor::Cursor;
 use cursor::Step;
 use encoding::Checked;
@@ -27,7 +29,7 @@ fn put(text: &mut [u8], at: usize, b: u8) -> usize {
     at
 }
 
-pub fn put_text(text: &mut [u8], at: usize, s: &[u8]) -> usize {
+fn put_text(text: &mut [u8], at: usize, s: &[u8]) -> usize {
     let mut end = at;
     let mut i: usize = 0;
     while i < s.len() {
@@ -37,7 +39,7 @@ pub fn put_text(text: &mut [u8], at: usize, s: &[u8]) -> usize {
     end
 }
 
-pub fn put_number(text: &mut [u8], at: usize, n: usize) -> usize {
+fn put_number(text: &mut [u8], at: usize, n: usize) -> usize {
     let mut digits = [0u8; 20];
     let k = io::decimal(n as u64, &mut digits);
     put_text(text, at, &digits[..k])
@@ -63,7 +65,7 @@ pub fn put_key(text: &mut [u8], at: usize, key: &[u8]) -> usize {
 
 // ---- Lines
 // The numbers of an encoding: width, members and edge bits, in the words that document 01 prints.
-pub fn put_numbers(text: &mut [u8], at: usize, e: Encoding) -> usize {
+fn put_numbers(text: &mut [u8], at: usize, e: Encoding) -> usize {
     let mut end = put_text(text, at, b"width ");
     end = put_number(text, end, e.width);
     end = put_text(text, end, b" tickets ");
@@ -73,14 +75,14 @@ pub fn put_numbers(text: &mut [u8], at: usize, e: Encoding) -> usize {
     put(text, end, LINE_FEED)
 }
 
-pub fn put_member(text: &mut [u8], at: usize, index: usize, key: &[u8]) -> usize {
-    let mut end = put_number(text, at, index);
+fn put_member(text: &mut [u8], at: usize, index: MemberIndex, key: &[u8]) -> usize {
+    let mut end = put_number(text, at, index.0);
     end = put(text, end, SPACE);
     end = put_key(text, end, key);
     put(text, end, LINE_FEED)
 }
 
-pub fn put_refused(text: &mut [u8], at: usize, k: u8) -> usize {
+fn put_refused(text: &mut [u8], at: usize, k: u8) -> usize {
     let mut end = put_text(text, at, b"refused ");
     end = put_number(text, end, k as usize);
     put(text, end, LINE_FEED)
@@ -106,7 +108,7 @@ fn next_line(text: &[u8], at: usize) -> usize {
 
 // How many bytes of a key a step wrote.
 fn key_bytes(answer: Step) -> usize
-    ensures { λ r. ⌜ r ≤ 32 ⌝ }
+    ensures { λ r. ⌜ r ≤ maxWidth / 8 ⌝ }
 {
     match answer {
         Step::Refused(_) => 0,
@@ -133,7 +135,7 @@ fn print_members(l: &[u8], t: &[u16], e: Encoding)
         let answer = stepped.answer;
         let k = key_bytes(answer);
         at = next_line(&text, at);
-        at = put_member(&mut text, at, i, &key[..k]);
+        at = put_member(&mut text, at, MemberIndex(i), &key[..k]);
         i += 1;
     }
     flush(&text, at);
@@ -146,7 +148,7 @@ fn print_refused(k: u8) {
 }
 
 // Prints the encoding that bytes are, or their refusal.
-pub fn print(l: &[u8]) {
+fn print(l: &[u8]) {
     let t = bits::tallies();
     match encoding::check(l, &t) {
         Checked::Refused(k) => print_refused(k),

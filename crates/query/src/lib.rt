@@ -3,9 +3,9 @@ ghost use Prim.Native.Nat.{_+_, _-_, _*_, _/_, _<_, _≤_};
 ghost use mathlib.Core.Path.{_≡_};
 ghost use mathlib.Core.Bool.{true, false, _&&_, not, _||_};
 ghost use mathlib.Core.List.{[]};
-ghost use lib.ListN.{length, getD, replicate};
-ghost use lib.Dec.{eqb};
-ghost use Rattle.loes.specs.Limits.{maxWidth, maxEdges, blockBits, subBlockBits};
+ghost use lib.ListN.{length, getD};
+ghost use lib.Dec.{eqb, leb, ltb};
+ghost use Rattle.loes.specs.Limits.{maxWidth, maxEdges, maxBytes, blockBits, subBlockBits, subBlocks};
 ghost use Rattle.loes.specs.Bytes.{bit, bitsIn, byteOf, packBits, front};
 ghost use Rattle.loes.specs.Edges.{ones, onesBefore};
 ghost use Rattle.loes.specs.Entry.{keyBytes, keysOf, count, edgesOf};
@@ -62,7 +62,7 @@ pub struct Spot {
 
 // The edge that a descent takes.
 fn edge_from(at: Spot, bit: bool) -> EdgeOffset
-    requires { ⌜ at .record .0 ≤ 262140 ⌝ }
+    requires { ⌜ at .record .0 ≤ maxEdges / 2 ⌝ }
     ensures { λ r. ⌜ r .0 ≡ edgeFrom (at .record .0) (at .found) bit ⌝ }
 {
     let r = at.record.0;
@@ -122,7 +122,7 @@ pub struct Position {
     pub found: bool,
 }
 
-pub fn locate(l: &[u8], t: &[u16], e: Encoding, key: &[u8]) -> Position
+fn locate(l: &[u8], t: &[u16], e: Encoding, key: &[u8]) -> Position
     requires { ⌜ Opens (now l) e × Tallies (now t) × (e .width ≤ 8 * length (now key)) ⌝ }
     ensures { λ r. ⌜ Located (entryIn (now (l .entry))) (bitsIn (now (key .entry)) (e .width)) (r .below .0) (r .found) ⌝ }
 {
@@ -170,7 +170,7 @@ fn ones_in(t: &[u16], x: u8) -> usize
 
 // The offset of the set bit that has `left` set bits before it from byte `from` on.
 fn select_from(edges: &[u8], t: &[u16], places: &[u8], from: usize, left: usize) -> EdgeOffset
-    requires { ⌜ Tallies (now t) × Places (now places) × (length (now edges) ≤ 68695) × (numbered (now edges) from left < ones (bitsIn (now edges) (8 * length (now edges)))) ⌝ }
+    requires { ⌜ Tallies (now t) × Places (now places) × (length (now edges) ≤ maxBytes) × (numbered (now edges) from left < ones (bitsIn (now edges) (8 * length (now edges)))) ⌝ }
     ensures { λ r. ⌜ r .0 ≡ select (bitsIn (now (edges .entry)) (8 * length (now (edges .entry)))) (numbered (now (edges .entry)) from left) ⌝ }
 {
     let mut i = from;
@@ -185,10 +185,10 @@ fn select_from(edges: &[u8], t: &[u16], places: &[u8], from: usize, left: usize)
     EdgeOffset(8 * i + (places[8 * x + k] as usize))
 }
 
-// A block with at most k set bits before it: the last one.
+// The last block with at most k set bits before it.
 fn block_of(l: &[u8], e: Encoding, k: usize) -> usize
     requires { ⌜ Opens (now l) e × (0 < e .bits) ⌝ }
-    ensures { λ r. ⌜ (blockBits * r < e .bits) × (blockOnes (edgesOf (entryIn (now (l .entry)))) r ≤ k) ⌝ }
+    ensures { λ r. ⌜ (blockBits * r < e .bits) × (blockOnes (edgesOf (entryIn (now (l .entry)))) r ≤ k) × (blockBits * (r + 1) < e .bits → k < blockOnes (edgesOf (entryIn (now (l .entry)))) (r + 1)) ⌝ }
 {
     let b = e.bits;
     let mut j: usize = 0;
@@ -205,7 +205,7 @@ fn block_of(l: &[u8], e: Encoding, k: usize) -> usize
 // Whether sub-block j is there, with at most k set bits of its block before it.
 fn begins_by(l: &[u8], e: Encoding, j: usize, k: usize) -> bool
     requires { ⌜ Opens (now l) e × (j ≤ maxEdges) ⌝ }
-    ensures { λ r. ⌜ (r ≡ true → (subBlockBits * j < e .bits) × (subBlockOnes (edgesOf (entryIn (now (l .entry)))) j ≤ k)) ⌝ }
+    ensures { λ r. ⌜ r ≡ (ltb (subBlockBits * j) (e .bits) && leb (subBlockOnes (edgesOf (entryIn (now (l .entry)))) j) k) ⌝ }
 {
     if Encoding::SUB_BLOCK_BITS * j < e.bits {
         let n = bits::number2(l, e.sub_blocks + 2 * j);
@@ -214,10 +214,10 @@ fn begins_by(l: &[u8], e: Encoding, j: usize, k: usize) -> bool
     false
 }
 
-// A sub-block of a block with at most k set bits of the block before it: the last one, halving.
+// The last sub-block of a block with at most k set bits of the block before it, by halving.
 fn sub_block_of(l: &[u8], e: Encoding, block: usize, k: usize) -> usize
     requires { ⌜ Opens (now l) e × (blockBits * block < e .bits) ⌝ }
-    ensures { λ r. ⌜ (r / 128 ≡ block) × (subBlockBits * r < e .bits) × (subBlockOnes (edgesOf (entryIn (now (l .entry)))) r ≤ k) ⌝ }
+    ensures { λ r. ⌜ (r / subBlocks ≡ block) × (subBlockBits * r < e .bits) × (subBlockOnes (edgesOf (entryIn (now (l .entry)))) r ≤ k) × ((r + 1) / subBlocks ≡ block → subBlockBits * (r + 1) < e .bits → k < subBlockOnes (edgesOf (entryIn (now (l .entry)))) (r + 1)) ⌝ }
 {
     let mut low = SUB_BLOCKS * block;
     let mut high = low + SUB_BLOCKS;
@@ -304,9 +304,9 @@ pub fn write_key(offsets: &[usize], m: usize, out: &mut [u8]) -> usize
     t
 }
 
-// No offset on any level.
-pub fn no_offsets() -> [usize; Encoding::MAX_WIDTH]
-    ensures { λ r. ⌜ r ≡ replicate maxWidth 0 ⌝ }
+// Room for a path.
+fn room() -> [usize; Encoding::MAX_WIDTH]
+    ensures { λ r. ⌜ length r ≡ maxWidth ⌝ }
 {
     [0usize; Encoding::MAX_WIDTH]
 }
@@ -378,7 +378,7 @@ pub fn key_at_in(
     if out.len() < (m + 7) / 8 {
         return Written::Refused(SHORT_BUFFER);
     }
-    let mut offsets = no_offsets();
+    let mut offsets = room();
     path_at(l, t, places, e, i, &mut offsets);
     let n = write_key(&offsets, m, out);
     Written::Bytes(n)

@@ -1,6 +1,7 @@
 use native.Mathlib.Omega.{arith}
-use mathlib.Core.Bool.{false≢true}
-use borrow.Author.Tests.{leb-true}
+use mathlib.Core.Path.{ap, _∙_}
+use lib.Dec.{leb}
+use Rattle.loes.proofs.Tests.{lt-yes, lt-no}
 use Rattle.encoding.proofs.Opened.{opens-room}
 use Rattle.query.proofs.Index.{sub-block-at}
 use borrow.Author.Needs.{needs}
@@ -20,10 +21,13 @@ number2-requires : tie.Need-number2-requires
 number2-requires c κs = let s = c .before .before .before .before in sub-block-at _ _ (s .pre .0) (s .args .j) (c .before .if1 .taken) .0
 
 returns : tie.Need-returns
-returns c q = let s = c .before .before .before .before .before in (c .before .before .if1 .taken, let z = sub-block-at _ _ (s .pre .0) (s .args .j) (c .before .before .if1 .taken) .1 in omega (arith, leb-true, c .number2 .ensures .0, z))
+returns c =
+    let s = c .before .before .before .before .before in
+    let z = sub-block-at _ _ (s .pre .0) (s .args .j) (c .before .before .if1 .taken) .1 in
+    rw (lt-yes _ _ (c .before .before .if1 .taken)) (ap (λ n. leb n (s .args .k)) (c .number2 .ensures .0 ∙ z))
 
 returns-2 : tie.Need-returns-2
-returns-2 c q = absurd (false≢true q)
+returns-2 c = rw (lt-no _ _ (c .if1 .left))
 
 pub begins-by-spec : {M : Type 1} → statement M
 begins-by-spec =

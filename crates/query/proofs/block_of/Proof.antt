@@ -39,7 +39,11 @@ number8-requires : tie.Need-number8-requires Inv-loop μ-loop
 number8-requires c κs = let s = c .before .before .before .before in block-at _ _ (s .pre .0) (c .before .before .loop .j + 1) (c .before .loop-test .taken) .0
 
 returns : tie.Need-returns Inv-loop μ-loop
-returns c = c .before .before .before .before .loop .inv
+returns c =
+    let s = c .before .before .before .before .before .before in
+    let i = c .before .before .before .before .loop in
+    let z = block-at _ _ (s .pre .0) (i .j + 1) (c .before .before .before .loop-test .taken) .1 in
+    (i .inv .0, i .inv .1, λ h. omega (arith, z, c .before .number8 .ensures, c .if1 .taken))
 
 add-j : tie.Need-add-j Inv-loop μ-loop
 add-j c = let s = c .before .before .before .before .before .before in omega (arith, opens-room _ _ (s .pre .0) .few, c .before .before .before .before .loop .inv .0)
@@ -51,7 +55,7 @@ loop-again : tie.Need-loop-again Inv-loop μ-loop
 loop-again c = let s = c .before .before .before .before .before .before in let t = c .before .before .before .loop-test .taken in (t, let z = block-at _ _ (s .pre .0) (c .before .before .before .before .loop .j + 1) t .1 in omega (arith, z, c .before .number8 .ensures, c .if1 .left))
 
 returns-2 : tie.Need-returns-2 Inv-loop μ-loop
-returns-2 c = c .before .loop .inv
+returns-2 c = (c .before .loop .inv .0, c .before .loop .inv .1, λ h. absurd (omega (arith, h, c .loop-test .left)))
 
 pub block-of-spec : {M : Type 1} → statement M
 block-of-spec =

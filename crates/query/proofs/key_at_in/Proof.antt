@@ -1,8 +1,5 @@
 use Prim.Native.Nat.{_<_}
 use Rattle.loes.specs.Read.{entryIn}
-use Prim.Native.Nat.{ℕ}
-use lib.ListN.{length, length-replicate}
-use mathlib.Core.Path.{ap, _∙_}
 use native.Mathlib.Omega.{arith}
 use denote.Ref.{now}
 use borrow.Author.Needs.{needs}
@@ -24,8 +21,8 @@ returns-2 : tie.Need-returns-2
 unfolding keyBytes started
 returns-2 c = let s = c .before .before .before .before .before .before .before .before in key-short _ _ _ (omega (arith, c .before .if1 .left, s .pre .0 .count)) (omega (arith, c .if2 .taken, s .pre .0 .width))
 
-no-offsets-requires : tie.Need-no-offsets-requires
-no-offsets-requires c κs = search needs
+room-requires : tie.Need-room-requires
+room-requires c κs = search needs
 
 slice-aggregate-path-at : tie.Need-slice-aggregate-path-at
 slice-aggregate-path-at c = search needs
@@ -36,7 +33,7 @@ few s h = omega (arith, h, s .pre .0 .count)
 path-at-requires : tie.Need-path-at-requires
 path-at-requires c κs =
     let s = c .before .before .before .before .before .before .before .before .before .before in
-    let z = ap length (c .before .no-offsets .ensures) ∙ length-replicate {A = ℕ} 256 0 in
+    let z = c .before .room .ensures in
     (s .pre .0, s .pre .1, s .pre .2, c .before .before .before .if1 .left, omega (arith, z, opens-valid _ _ (s .pre .0) .narrow, s .pre .0 .width))
 
 slice-aggregate-write-key : tie.Need-slice-aggregate-write-key
@@ -48,7 +45,7 @@ write-key-requires c κs =
     let s = c .before .before .before .before .before .before .before .before .before .before .before .before .before .before in
     let q = c .before .before .before .path-at .ensures in
     let w = s .pre .0 .width in
-    let z = path-long _ (opens-valid _ _ (s .pre .0)) (s .args .i .0) (few s (c .before .before .before .before .before .before .before .if1 .left)) (c .before .before .before .before .before .no-offsets .result) in
+    let z = path-long _ (opens-valid _ _ (s .pre .0)) (s .args .i .0) (few s (c .before .before .before .before .before .before .before .if1 .left)) (c .before .before .before .before .before .room .result) in
     (omega (arith, opens-valid _ _ (s .pre .0) .narrow, w), rw (q, w) z, c .before .before .before .before .before .before .if2 .left)
 
 same-length : tie.Need-same-length
@@ -68,7 +65,7 @@ key-at-in-spec =
     returns
     add-if2
     returns-2
-    no-offsets-requires
+    room-requires
     slice-aggregate-path-at
     path-at-requires
     slice-aggregate-write-key
