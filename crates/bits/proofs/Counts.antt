@@ -2,30 +2,19 @@
 use mathlib.Core.Path.{_≡_, sym, ap, _∙_}
 use Prim.Native.Nat.{ℕ, zero, suc, _+_, _-_, _*_, _/_, _%_, _^_, _≤_, _<_}
 use mathlib.Core.Bool.{Bool}
-use mathlib.Core.List.{[], _∷_, _++_, append-nil, append-assoc}
+use mathlib.Core.List.{_++_}
 use native.Mathlib.Omega.{arith}
 use native.Mathlib.Nat.{pow-suc, div-div-eq-div-mul, div-le-self}
-use lib.ListN.{length, take, drop, getD}
+use lib.ListN.{take, drop, getD}
 use lib.Seq.{getD-drop, take-at}
 use lib.Count
 use Rattle.loes.specs.Bytes.{Bytes, odd, tabulate, bitAt, bitsIn, bitsValue}
 use Rattle.loes.specs.Edges.{ones, onesBefore}
 use Rattle.loes.proofs.Lists.{ones-append}
 use Rattle.loes.proofs.Bytes.{length-tabulate}
-use Rattle.loes.proofs.Bits.{at-bit, tabulate-ext, count-bitsValue, byte-bitsValue, bit-odd, bitsValue-snoc}
+use Rattle.loes.proofs.Bits.{at-bit, tabulate-ext, count-bitsValue, byte-bitsValue, bit-odd, bitsValue-snoc, tabulate-add, length-bitsIn}
 use Rattle.loes.proofs.Seven.{ones-le}
 use Rattle.bits.specs.Tables.{bits8}
-
-pub tabulate-add : {A : Type 0} (f : ℕ → A) (n k : ℕ) → tabulate f (n + k) ≡ tabulate f n ++ tabulate (λ (j : ℕ). f (n + j)) k
-unfolding tabulate
-tabulate-add f n zero = let z : n + 0 ≡ n = omega arith in rw z (sym (append-nil (tabulate f n)))
-tabulate-add f n (suc k) =
-    let z : n + suc k ≡ suc (n + k) = omega arith in
-    rw (z, tabulate-add f n k) (append-assoc (tabulate f n) (tabulate (λ (j : ℕ). f (n + j)) k) (f (n + k) ∷ []))
-
-pub length-bitsIn : (l : Bytes) (n : ℕ) → length (bitsIn l n) ≡ n
-unfolding bitsIn
-length-bitsIn l n = length-tabulate (bitAt l) n
 
 pub ones-bits-le : (l : Bytes) (n : ℕ) → ones (bitsIn l n) ≤ n
 ones-bits-le l n = omega (arith, ones-le (bitsIn l n), length-bitsIn l n)

@@ -9,9 +9,8 @@ use lib.ListN.{length, take, getD, List·getD-eq-default}
 use lib.Seq.{ext-getD, getD-take, length-take-le}
 use Rattle.loes.specs.Bytes.{Bytes, odd, tabulate, started, bitAt, bitsIn, bitsValue, byteOf, packBits}
 use Rattle.loes.proofs.Bytes.{length-tabulate, getD-tabulate, length-packed}
-use Rattle.loes.proofs.Bits.{at-bit, tabulate-ext}
+use Rattle.loes.proofs.Bits.{at-bit, tabulate-ext, length-bitsIn}
 use Rattle.loes.proofs.Numbers.{AllBytes, bytes-at}
-use Rattle.bits.proofs.Counts.{length-bitsIn}
 use Rattle.bits.proofs.Part.{frontBits, front-byte}
 
 -- the bits of byte i that are used

@@ -13,8 +13,9 @@ use Rattle.loes.proofs.Tests.{both}
 use Rattle.loes.proofs.Tree.{bit-le}
 use Rattle.loes.proofs.Bytes.{length-tabulate}
 use Rattle.loes.proofs.Seven.{ones-le}
+use Rattle.loes.proofs.Bits.{length-bitsIn}
 use Rattle.bits.specs.Tables.{bits8, noneEmpty, tallyOf, tally}
-use Rattle.bits.proofs.Counts.{length-bitsIn, ones-bits-le, bits-more, byte-more}
+use Rattle.bits.proofs.Counts.{ones-bits-le, bits-more, byte-more}
 
 -- how many of the first n bytes have an empty record
 unfoldable pub empties : Bytes → ℕ → ℕ

@@ -4,8 +4,7 @@ use Prim.Native.Nat.{ℕ, zero, suc, _+_, _-_, _*_, _/_, _%_, _^_, _≤_, _<_}
 use mathlib.Core.Bool.{Bool, _||_, not, or-false}
 use mathlib.Core.List.{[], _∷_}
 use native.Mathlib.Omega.{arith}
-use lib.ListN.{length, drop, getD, drop-of-length-le}
-use lib.Seq.{drop-append-le}
+use lib.ListN.{getD}
 use lib.Pow.{pow-pos, shl-exact, shr-shr, mod-pow-add}
 use lib.Dec.{eqb, eqb·suc-zero}
 use Rattle.loes.specs.Bytes.{Bytes, tabulate, started, odd, bitAt, bitsIn}
@@ -13,18 +12,7 @@ use Rattle.loes.specs.Keys.{any}
 use Rattle.loes.specs.Entry.{keyBytes}
 use Rattle.loes.specs.Model.{unusedSet}
 use Rattle.loes.proofs.Lists.{any-append}
-use Rattle.loes.proofs.Bytes.{length-tabulate}
-use Rattle.loes.proofs.Bits.{tabulate-ext}
-
-pub drop-tabulate : {A : Type 0} (f : ℕ → A) (m k : ℕ) → drop m (tabulate f (m + k)) ≡ tabulate (λ (j : ℕ). f (m + j)) k
-unfolding tabulate
-drop-tabulate f m zero =
-    let z : m + 0 ≡ m = omega arith in
-    rw z (drop-of-length-le (tabulate f m) {i = m} (omega (arith, length-tabulate f m)))
-drop-tabulate f m (suc k) =
-    let z : m + suc k ≡ suc (m + k) = omega arith in
-    let h : m ≤ length (tabulate f (m + k)) = omega (arith, length-tabulate f (m + k)) in
-    rw z (rw (drop-append-le m (tabulate f (m + k)) (f (m + k) ∷ []) h, drop-tabulate f m k))
+use Rattle.loes.proofs.Bits.{tabulate-ext, drop-tabulate}
 
 either-bit : (a b : ℕ) → b < 2 → (not (eqb a 0) || eqb b 1) ≡ not (eqb (a * 2 + b) 0)
 either-bit zero zero h = refl
@@ -63,9 +51,8 @@ module _ (m t : ℕ) (x : Bytes) (some : 0 < m) (size : t ≡ keyBytes m) where
   unfolding unusedSet bitsIn bitAt
   unused-is =
       let k : ℕ = 8 * t - m in
-      let z : 8 * keyBytes m ≡ m + k = rw (← size) (omega (arith, spare)) in
       let each : (j : ℕ) → j < k → bitAt x (m + j) ≡ odd (getD x (t - 1) 0 / 2 ^ (k - 1 - j)) = λ j h.
       let a : (m + j) / 8 ≡ t - 1 = omega (arith, spare) in
       let b : 7 - (m + j) % 8 ≡ k - 1 - j = omega (arith, spare) in
       rw (a, b) in
-      rw (z, drop-tabulate (bitAt x) m k, tabulate-ext (λ j. bitAt x (m + j)) (λ j. odd (getD x (t - 1) 0 / 2 ^ (k - 1 - j))) k each, shl-is k (spare .0)) (low-bits k (getD x (t - 1) 0))
+      rw (← size, drop-tabulate (bitAt x) m (8 * t) (spare .1), tabulate-ext (λ j. bitAt x (m + j)) (λ j. odd (getD x (t - 1) 0 / 2 ^ (k - 1 - j))) k each, shl-is k (spare .0)) (low-bits k (getD x (t - 1) 0))

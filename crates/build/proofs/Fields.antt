@@ -12,7 +12,7 @@ use Rattle.loes.specs.Read.{followed, endOf}
 use Rattle.loes.specs.Held.{held}
 use Rattle.loes.proofs.Bytes.{length-packed, length-bigEndian, length-bigEndians, field-length}
 use Rattle.loes.proofs.Reading.{encode-length}
-use Rattle.bits.proofs.Counts.{length-bitsIn}
+use Rattle.loes.proofs.Bits.{length-bitsIn}
 use Rattle.build.specs.Writing.{Sealed, Shaped}
 use Rattle.build.proofs.Shape.{held-bits}
 

@@ -18,7 +18,8 @@ use Rattle.loes.proofs.Tree.{prefixCount, bit-le}
 use Rattle.loes.proofs.Ends.{roots, ends, ends-set, roots-set, count-set}
 use Rattle.loes.proofs.Reading.{levelEnd-last}
 use Rattle.loes.proofs.Seven.{level-le}
-use Rattle.bits.proofs.Counts.{length-bitsIn, before-bits}
+use Rattle.loes.proofs.Bits.{length-bitsIn}
+use Rattle.bits.proofs.Counts.{before-bits}
 
 before-all : (e : List Bool) (n : ℕ) → onesBefore e n ≤ ones e
 unfolding onesBefore ones

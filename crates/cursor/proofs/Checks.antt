@@ -1,7 +1,7 @@
 -- The check of a path level by level, its turn, and the path moved on.
 use mathlib.Core.Path.{_≡_, refl, sym, ap, _∙_}
 use Prim.Native.Nat.{ℕ, suc, _+_, _-_, _*_, _/_, _%_, _≤_, _<_}
-use mathlib.Core.Bool.{Bool, true, false, _&&_, not, false≢true}
+use mathlib.Core.Bool.{Bool, true, false, not, false≢true, and-false}
 use mathlib.Core.List.{List}
 use native.Mathlib.Omega.{arith}
 use native.Mathlib.Decide.{decLe}
@@ -23,13 +23,6 @@ use Rattle.cursor.specs.Moves.{leadsOn, turns, firstEdge, behind, movedO
 use Rattle.cursor.proofs.Right.{lead-right, right-leads}
 use Rattle.cursor.proofs.Moves.{moved-above}
 
-past : (e : List Bool) (o : ℕ) → length e ≤ o → getD e o false ≡ false
-past e o h = List·getD-eq-default e false h
-
-and-none : (x : Bool) → false ≡ (x && false)
-and-none true = refl
-and-none false = refl
-
 pub was-false : (x : Bool) → not x ≡ true → x ≡ false
 was-false true h = absurd (false≢true h)
 was-false false h = refl
@@ -41,7 +34,7 @@ leads-other e r o h = rw (ne-eqb (o / 2) r h)
 
 pub leads-past : (e : List Bool) (r o : ℕ) → length e ≤ o → false ≡ leadsOn e r o
 unfolding leadsOn
-leads-past e r o h = rw (past e o h) (and-none (eqb (o / 2) r))
+leads-past e r o h = rw (List·getD-eq-default e false {n = o} h) (sym (and-false (eqb (o / 2) r)))
 
 pub leads-bit : (e : List Bool) (r o : ℕ) (x : Bool) → o / 2 ≡ r → x ≡ getD e o false → x ≡ leadsOn e r o
 unfolding leadsOn
@@ -58,7 +51,7 @@ turn-odd e o h = rw (odd-bit true o h)
 
 pub turn-past : (e : List Bool) (o : ℕ) → length e ≤ o + 1 → false ≡ turns e o
 unfolding turns
-turn-past e o h = rw (past e (o + 1) h) (and-none (not (odd o)))
+turn-past e o h = rw (List·getD-eq-default e false {n = o + 1} h) (sym (and-false (not (odd o))))
 
 pub turn-bit : (e : List Bool) (o : ℕ) (x : Bool) → (o % 2 ≡ 1 → ⊥) → x ≡ getD e (o + 1) false → x ≡ turns e o
 unfolding turns

@@ -1,18 +1,19 @@
 -- The last member's path turns nowhere; the first member's takes the first edge everywhere.
 use mathlib.Core.Path.{_≡_, refl, sym, ap, _∙_}
 use Prim.Native.Nat.{ℕ, zero, suc, _+_, _*_, _/_, _≤_, _<_}
-use mathlib.Core.Bool.{Bool, true, false, _&&_, _||_, not, true≢false}
+use mathlib.Core.Bool.{Bool, true, false, _&&_, _||_, not, and-false}
 use mathlib.Core.List.{List, [], _∷_, _++_}
 use native.Mathlib.Omega.{arith}
 use lib.ListN.{length, take, getD}
 use lib.Seq.{take-all}
 use Rattle.loes.specs.Bytes.{bit, odd, tabulate}
 use Rattle.loes.specs.Keys.{Key, KeySet, members}
-use Rattle.loes.specs.Edges.{recordBits, ones, edges}
+use Rattle.loes.specs.Edges.{recordBits, ones, edges, onesBefore}
 use Rattle.loes.proofs.Lists.{length-bits}
 use Rattle.loes.proofs.Bits.{odd-bit}
 use Rattle.loes.proofs.Tree.{inhabited, treeLevel, prefixCount, ones-tree, length-tree, hasPrefix, prefixesBefore, edge-bit, edge-rank, count-one, length-members}
 use Rattle.loes.proofs.Navigation.{recordIndex, nav-bit}
+use Rattle.loes.proofs.Seven.{before-suc}
 use Rattle.query.specs.Paths.{recordAt, Leading, keyOf}
 use Rattle.query.proofs.Descent.{step-before}
 use Rattle.query.proofs.Paths.{key-length, key-suc, split}
@@ -21,13 +22,8 @@ use Rattle.cursor.proofs.Moves.{path-prefix, record-some, first-set, fi
 
 -- ---- the last found prefix, one longer
 take-empty : (l : List Bool) (i : ℕ) → getD l i false ≡ false → ones (take (suc i) l) ≡ ones (take i l)
-unfolding ones
-take-empty [] zero h = refl
-take-empty [] (suc i) h = refl
-take-empty (true ∷ l) zero h = absurd (true≢false h)
-take-empty (false ∷ l) zero h = refl
-take-empty (true ∷ l) (suc i) h = ap suc (take-empty l i h)
-take-empty (false ∷ l) (suc i) h = take-empty l i h
+unfolding onesBefore
+take-empty l i h = before-suc l i ∙ rw h (omega arith)
 
 pub last-step : (p : Key) (b : Bool) (m : ℕ) (s : KeySet) → length p < m → hasPrefix p m s ≡ true → hasPrefix (p ++ b ∷ []) m s ≡ true → (not b && hasPrefix (p ++ true ∷ []) m s) ≡ false
     → suc (prefixesBefore p m s) ≡ prefixCount (length p) m s → suc (prefixesBefore (p ++ b ∷ []) m s) ≡ prefixCount (suc (length p)) m s
@@ -51,9 +47,7 @@ last-step p b m s l fp fb nt h = go b fb nt
 -- ---- the first found prefix, one longer
 none-first : (l : List Bool) → getD l 0 false ≡ false → ones (take 1 l) ≡ 0
 unfolding ones
-none-first [] h = refl
-none-first (true ∷ l) h = absurd (true≢false h)
-none-first (false ∷ l) h = refl
+none-first l h = take-empty l 0 h
 
 pub first-step : (p : Key) (b : Bool) (m : ℕ) (s : KeySet) → length p < m → hasPrefix p m s ≡ true → (b && hasPrefix (p ++ false ∷ []) m s) ≡ false
     → prefixesBefore p m s ≡ 0 → prefixesBefore (p ++ b ∷ []) m s ≡ 0
@@ -68,11 +62,7 @@ first-odd e r = go (getD e (2 * r) false)
   where
     go : (c : Bool) → (odd (2 * r + bit (not c)) && c) ≡ false
     go true = rw (odd-bit false (2 * r + 0) (omega arith))
-    go false = and-none (odd (2 * r + 1))
-      where
-        and-none : (x : Bool) → (x && false) ≡ false
-        and-none true = refl
-        and-none false = refl
+    go false = and-false (odd (2 * r + 1))
 
 at-first : (e : List Bool) (r o : ℕ) → o ≡ firstEdge e r → (getD e (2 * r) false || getD e (2 * r + 1) false) ≡ true
     → (o / 2 ≡ r) × ((getD e o false ≡ true) × ((odd o && getD e (2 * r) false) ≡ false))

@@ -10,38 +10,28 @@ use lib.Dec.{ltb}
 use borrow.Author.Tests.{ne-eqb}
 use Rattle.loes.specs.Bytes.{bit, odd, tabulate}
 use Rattle.loes.specs.Keys.{Key, KeySet, members}
-use Rattle.loes.specs.Edges.{ones, onesBefore, rank, edges}
+use Rattle.loes.specs.Edges.{ones, rank, edges}
 use Rattle.loes.proofs.Bits.{bit-odd}
 use Rattle.loes.proofs.Tests.{lt-yes, lt-no, eq-yes}
 use Rattle.loes.proofs.Tree.{half, inhabited, hasPrefix, prefixesBefore, bit-le, prefix-whole, members-at}
-use Rattle.loes.proofs.Navigation.{recordsBefore, recordIndex, nav-bit, nav-rank}
+use Rattle.loes.proofs.Navigation.{recordsBefore, recordIndex, nav-bit, nav-rank, record-nil}
+use Rattle.loes.proofs.Seven.{before-suc}
 use Rattle.query.specs.Paths.{recordAt, Leading, keyOf}
-use Rattle.query.proofs.Descent.{record-first}
 use Rattle.query.proofs.Paths.{key-length, key-suc, split}
 use Rattle.cursor.specs.Moves.{turns, firstEdge, behind, movedOn}
 
 -- ---- rank, one further
-pub rank-suc : (e : List Bool) (i : ℕ) → rank e (suc i) ≡ rank e i + bit (getD e (suc i) false)
-unfolding rank onesBefore ones
-rank-suc [] i = refl
-rank-suc (true ∷ []) zero = refl
-rank-suc (false ∷ []) zero = refl
-rank-suc (true ∷ true ∷ e) zero = refl
-rank-suc (true ∷ false ∷ e) zero = refl
-rank-suc (false ∷ true ∷ e) zero = refl
-rank-suc (false ∷ false ∷ e) zero = refl
-rank-suc (true ∷ e) (suc i) = omega (arith, rank-suc e i)
-rank-suc (false ∷ e) (suc i) = rank-suc e i
-
 pub rank-set : (e : List Bool) (i : ℕ) → getD e (i + 1) false ≡ true → rank e (i + 1) ≡ suc (rank e i)
+unfolding rank
 rank-set e i h =
     let z : i + 1 ≡ suc i = omega arith in
-    rw z (rank-suc e i ∙ rw (rw z at h) (omega arith))
+    rw z (before-suc e (suc i) ∙ rw (rw z at h) (omega arith))
 
 pub rank-empty : (e : List Bool) (i : ℕ) → getD e (i + 1) false ≡ false → rank e (i + 1) ≡ rank e i
+unfolding rank
 rank-empty e i h =
     let z : i + 1 ≡ suc i = omega arith in
-    rw z (rank-suc e i ∙ rw (rw z at h) (omega arith))
+    rw z (before-suc e (suc i) ∙ rw (rw z at h) (omega arith))
 
 -- some member goes on
 pub prefix-child : (p : Key) (m : ℕ) (s : KeySet) → length p < m → hasPrefix p m s ≡ true → (hasPrefix (p ++ false ∷ []) m s || hasPrefix (p ++ true ∷ []) m s) ≡ true
@@ -55,7 +45,7 @@ module _ (m : ℕ) (s : KeySet) (some : inhabited m s ≡ true) where
   pub path-prefix : (g : ℕ → ℕ) (d : ℕ) → d ≤ m → Leading (edges m s) d g
       → (hasPrefix (keyOf g d) m s ≡ true) × (recordIndex (keyOf g d) m s ≡ recordAt (edges m s) g d)
   unfolding recordAt
-  path-prefix g zero l h = (unfold keyOf tabulate hasPrefix in some, unfold keyOf tabulate in record-first m s)
+  path-prefix g zero l h = (unfold keyOf tabulate hasPrefix in some, unfold keyOf tabulate in record-nil m s)
   path-prefix g (suc d) l h =
       let i = path-prefix g d (omega arith) (h .0) in
       let p : Key = keyOf g d in

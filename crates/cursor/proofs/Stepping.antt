@@ -2,13 +2,13 @@
 use mathlib.Core.Path.{_≡_, refl, sym, ap, ap₂, _∙_}
 use Prim.Native.Nat.{ℕ, zero, suc, _+_, _-_, _≤_, _<_}
 use mathlib.Core.Bool.{Bool, true, false}
-use mathlib.Core.List.{List, [], _∷_, _++_, map, map-append}
+use mathlib.Core.List.{List, [], _++_, map}
 use native.Mathlib.Omega.{arith}
 use lib.ListN.{length, take, drop, getD, replicate}
 use lib.Seq.{drop-append-add}
 use borrow.Author.Tests.{ne-eqb}
 use Rattle.loes.specs.Limits.{maxWidth}
-use Rattle.loes.specs.Bytes.{Bytes, odd, tabulate, packBits, front}
+use Rattle.loes.specs.Bytes.{Bytes, odd, packBits, front}
 use Rattle.loes.specs.Keys.{smaller}
 use Rattle.loes.specs.Entry.{Entry, keyBytes, keysOf, count, edgesOf, edgeCount, Valid}
 use Rattle.loes.specs.Refusals.{shortBuffer, badCursor, test, firstOf}
@@ -16,10 +16,11 @@ use Rattle.loes.specs.Model.{Answer, refused, wroteKey}
 use Rattle.loes.specs.Cursor as spec
 use Rattle.loes.specs.Cursor.{Cursor, Advanced, before, at, after, padded, pathOf, offsetsRight, isCursorOf, keyOfPath, nextIndex, hasNext, stays, staysOr, advanceTests, advance}
 use Rattle.loes.proofs.Tests.{lt-yes, both}
-use Rattle.loes.proofs.Tree.{length-members}
+use Rattle.loes.proofs.Tree.{length-members, count-none}
 use Rattle.loes.proofs.Cursors.{noOffsets, cursorAt, right-none, right-parts, right-is, right-after, advance-on, advance-out}
+use Rattle.loes.proofs.Bits.{map-tabulate}
 use Rattle.query.specs.Paths.{keyOf, pathKey}
-use Rattle.query.proofs.Descent.{inhabited-none, count-none}
+use Rattle.query.proofs.Descent.{inhabited-none}
 use Rattle.query.proofs.Ascent.{path-size, key-back}
 use Rattle.cursor.specs.declared.State.{State}
 use Rattle.cursor.specs.Steps.{stateOf, at as place}
@@ -31,11 +32,6 @@ use Rattle.cursor.proofs.Outset.{first-some}
 pub positive : (n : ℕ) → (n ≡ 0 → ⊥) → 0 < n
 positive zero h = absurd (h refl)
 positive (suc n) h = omega arith
-
-map-tabulate : {A B : Type 0} (f : A → B) (g : ℕ → A) (n : ℕ) → map f (tabulate g n) ≡ tabulate (λ (i : ℕ). f (g i)) n
-unfolding tabulate
-map-tabulate f g zero = refl
-map-tabulate f g (suc n) = map-append f (tabulate g n) (g n ∷ []) ∙ ap (λ x. x ++ f (g n) ∷ []) (map-tabulate f g n)
 
 key-map : (os : List ℕ) (m : ℕ) → m ≤ length os → map odd (take m os) ≡ pathKey os m
 unfolding pathKey keyOf

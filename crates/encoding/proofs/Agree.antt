@@ -21,12 +21,12 @@ use Rattle.loes.proofs.Forest.{NoEmpty}
 use Rattle.loes.proofs.WellFormed.{recordsIn}
 use Rattle.loes.proofs.Ends.{roots, ends, ends-set, roots-set, full-set, follows-itself}
 use Rattle.loes.proofs.Bytes.{length-packed}
-use Rattle.loes.proofs.Bits.{bits-packed}
+use Rattle.loes.proofs.Bits.{bits-packed, length-bitsIn}
 use Rattle.loes.proofs.Numbers.{AllBytes, bytes-drop}
 use Rattle.loes.proofs.Reading.{bits-front, Passed, passed, valid-passed}
 use Rattle.loes.proofs.Seven.{Agrees, encode-agrees, seven}
 use Rattle.bits.specs.Tables.{noneEmpty}
-use Rattle.bits.proofs.Counts.{length-bitsIn, ones-more}
+use Rattle.bits.proofs.Counts.{ones-more}
 use Rattle.bits.proofs.Tally.{full-more}
 use Rattle.bits.proofs.Packed.{packs, packs-clear}
 use Rattle.encoding.specs.declared.Encoding.{Encoding}

@@ -15,7 +15,7 @@ use Rattle.loes.proofs.Lent.{end-most}
 use Rattle.loes.proofs.Bytes.{getD-tabulate}
 use Rattle.loes.proofs.Reading.{reads-exactly, encode-length, edges-read}
 use Rattle.loes.proofs.Seven.{Agrees, encode-agrees}
-use Rattle.bits.proofs.Counts.{length-bitsIn}
+use Rattle.loes.proofs.Bits.{length-bitsIn}
 use Rattle.encoding.specs.declared.Encoding.{Encoding}
 use Rattle.encoding.specs.Opened.{Opens, Placed, Room, Counted, edgesAt}
 

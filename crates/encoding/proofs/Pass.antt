@@ -35,7 +35,7 @@ pub record Going (l : Bytes) (e : Encoding) (j n : ℕ) : Type 0 where
 pub below-next : (P : ℕ → Type 0) (d : ℕ) → ((j : ℕ) → j < d → P j) → P d → (j : ℕ) → j < d + 1 → P j
 below-next P d f p j h = elim (decLe (suc j) d) [ yes l ↦ f j l | no l ↦ let z : d ≡ j = omega arith in rw z at p ]
 
-sub-block-first : (x : List Bool) (j : ℕ) → j % 128 ≡ 0 → subBlockOnes x j ≡ 0
+pub sub-block-first : (x : List Bool) (j : ℕ) → j % 128 ≡ 0 → subBlockOnes x j ≡ 0
 unfolding subBlockOnes onesBefore ones
 sub-block-first x j h = rw h
 

@@ -3,7 +3,7 @@ use mathlib.Core.Path.{_≡_}
 use Prim.Native.Nat.{ℕ, suc, _+_, _*_, _/_, _%_, _^_, _-_, _<_}
 use mathlib.Core.Bool.{Bool, true}
 use lib.ListN.{getD, drop}
-use Rattle.loes.specs.Limits.{blockBits, subBlockBits, subBlocks}
+use Rattle.loes.specs.Limits.{subBlocks}
 use Rattle.loes.specs.Bytes.{Bytes, numberAt, bitsIn}
 use Rattle.loes.specs.Edges.{ones}
 use Rattle.loes.specs.Read.{start3}

@@ -19,6 +19,7 @@ use Rattle.loes.specs.Calls.{reading, afterReading}
 use Rattle.loes.proofs.Tests.{eq-yes, yes-eq, both}
 use Rattle.loes.proofs.Reading.{bits-front, followed-sized}
 use Rattle.loes.proofs.Writes.{writes-refused, writes-on}
+use Rattle.loes.proofs.Bits.{length-bitsIn}
 use Rattle.encoding.specs.Opened.{Opens}
 use Rattle.encoding.specs.Fields.{Checks}
 use Rattle.encoding.proofs.Opened.{opens-room, opens-valid, opens-held, opens-holds}
@@ -27,7 +28,6 @@ use Rattle.encoding.specs.declared.Checked.{Checked}
 use Rattle.encoding.specs.declared.Checked.the-variants as checked
 use Rattle.merge.specs.Records.{Written}
 use Rattle.build.specs.Writing.{Sealed}
-use Rattle.bits.proofs.Counts.{length-bitsIn}
 use Rattle.merge.proofs.Sealing.{written-bits, written-room}
 use Rattle.join.specs.declared.Join.{Join}
 use Rattle.join.specs.declared.Join.the-variants as join

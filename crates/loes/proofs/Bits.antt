@@ -2,11 +2,11 @@
 use mathlib.Core.Path.{_≡_, refl, sym, ap, _∙_}
 use Prim.Native.Nat.{ℕ, zero, suc, _+_, _-_, _*_, _/_, _%_, _^_, _≤_, _<_}
 use mathlib.Core.Bool.{Bool, true, false}
-use mathlib.Core.List.{List, [], _∷_, _++_}
+use mathlib.Core.List.{List, [], _∷_, _++_, map, map-append, append-nil, append-assoc}
 use native.Mathlib.Omega.{arith}
 use native.Mathlib.Decide.{decLe}
-use lib.ListN.{length, getD, List·getD-eq-default}
-use lib.Seq.{ext-getD}
+use lib.ListN.{length, take, drop, getD, List·getD-eq-default}
+use lib.Seq.{ext-getD, drop-at, getD-take}
 use lib.Count
 use lib.Dec.{eqb}
 use Rattle.loes.proofs.Lists.{ones-append}
@@ -82,6 +82,37 @@ pub tabulate-ext : {A : Type 0} (f g : ℕ → A) (n : ℕ) → ((i : ℕ) → i
 unfolding tabulate
 tabulate-ext f g zero h = refl
 tabulate-ext f g (suc n) h = rw (tabulate-ext f g n (λ i l. h i (omega arith)), h n (omega arith))
+
+pub map-tabulate : {A B : Type 0} (g : A → B) (f : ℕ → A) (n : ℕ) → map g (tabulate f n) ≡ tabulate (λ (i : ℕ). g (f i)) n
+unfolding tabulate
+map-tabulate g f zero = refl
+map-tabulate g f (suc n) = rw (map-append, map-tabulate g f n)
+
+pub tabulate-add : {A : Type 0} (f : ℕ → A) (n k : ℕ) → tabulate f (n + k) ≡ tabulate f n ++ tabulate (λ (j : ℕ). f (n + j)) k
+unfolding tabulate
+tabulate-add f n zero = let z : n + 0 ≡ n = omega arith in rw (z, append-nil)
+tabulate-add f n (suc k) =
+    let z : n + suc k ≡ suc (n + k) = omega arith in
+    rw (z, tabulate-add f n k, append-assoc)
+
+pub drop-tabulate : {A : Type 0} (f : ℕ → A) (i n : ℕ) → i ≤ n → drop i (tabulate f n) ≡ tabulate (λ (j : ℕ). f (i + j)) (n - i)
+drop-tabulate f i n h =
+    let z : i + (n - i) ≡ n = omega arith in
+    let e : tabulate f n ≡ tabulate f i ++ tabulate (λ (j : ℕ). f (i + j)) (n - i) = rw z at (tabulate-add f i (n - i)) in
+    rw e (drop-at (tabulate f i) (tabulate (λ (j : ℕ). f (i + j)) (n - i)) i (length-tabulate f i))
+
+pub length-bitsIn : (l : List ℕ) (n : ℕ) → length (bitsIn l n) ≡ n
+unfolding bitsIn
+length-bitsIn l n = length-tabulate (bitAt l) n
+
+-- bits of the front bytes
+pub bit-taken : (l : List ℕ) (t o : ℕ) → o < 8 * t → bitAt (take t l) o ≡ bitAt l o
+unfolding bitAt
+bit-taken l t o h = let q : o / 8 < t = omega arith in rw (getD-take t l (o / 8) 0)
+
+pub bits-taken : (l : List ℕ) (t n : ℕ) → n ≤ 8 * t → bitsIn (take t l) n ≡ bitsIn l n
+unfolding bitsIn
+bits-taken l t n h = tabulate-ext (bitAt (take t l)) (bitAt l) n (λ i g. bit-taken l t i (omega arith))
 
 pub at-bit : (l : List ℕ) (i j : ℕ) → j < 8 → bitAt l (8 * i + j) ≡ odd (getD l i 0 / 2 ^ (7 - j))
 unfolding bitAt

@@ -10,7 +10,7 @@ use lib.ListN.{length, drop, getD, length-map}
 use lib.Seq.{take-append-seam}
 use lib.Dec.{eqb, ltb}
 use Rattle.loes.specs.Limits.{maxWidth, maxEdges}
-use Rattle.loes.specs.Bytes.{bitsIn, bitAt, Bytes, front}
+use Rattle.loes.specs.Bytes.{Bytes, front}
 use Rattle.loes.specs.Keys.{Key, KeySet, any, sameKey, sameBit, setOf, either, without}
 use Rattle.loes.specs.Entry.{Entry, SameEntry, withSet, edgeCount, wrongWidth, tooManyEdges, Valid}
 use Rattle.loes.specs.Encode.{encode}
@@ -21,7 +21,7 @@ use Rattle.loes.specs.Calls.{afterReading, reading, packCall, unionCall,
 use Rattle.loes.specs.History.{Call, doPack, doUnion, doDifference, askContains, askIndexOf, askLowerBound, askKeyAt, askRank, atPlace, modelCall, addedBy, outcomeOf, modelFrom, modelSays, storeCall, cut, writtenWith, writtenBy, storeFrom, storeSays, modelAfter, storeAfter, noEntry, HistoriesAgree}
 use Rattle.loes.proofs.Tests.{no-lt, yes-eq, neither, not-false, both, none-append, none-test}
 use Rattle.loes.proofs.Lists.{getD-map-in}
-use Rattle.loes.proofs.Bytes.{length-tabulate}
+use Rattle.loes.proofs.Bits.{length-bitsIn}
 use Rattle.loes.proofs.Reading.{read-encode, opened-inj}
 
 -- ---- Entries that are fine
@@ -158,8 +158,8 @@ same-length (a ∷ j) [] h = absurd (false≢true h)
 same-length (a ∷ j) (b ∷ k) h = ap suc (same-length j k (both (sameBit a b) (sameKey j k) h .1))
 
 pub length-key : (m : ℕ) (x : Bytes) → length (keyIn m x) ≡ m
-unfolding keyIn bitsIn
-length-key m x = length-tabulate (bitAt x) m
+unfolding keyIn
+length-key m x = length-bitsIn x m
 
 batch-sized : (m : ℕ) (l : List Bytes) (k : Key) → any (sameKey k) (map (keyIn m) l) ≡ true → length k ≡ m
 unfolding any

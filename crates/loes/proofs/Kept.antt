@@ -26,10 +26,6 @@ Accepts isAbsent = Unit {0}
 Accepts isNone = Unit {0}
 Accepts (tells m n b) = Unit {0}
 
-either-accepts : (c : Bool) (a b : Answer) → Accepts a → Accepts b → Accepts (cond c a b)
-either-accepts true a b h g = h
-either-accepts false a b h g = g
-
 tested-keeps : (ts : Tests) (bufs : List Bytes) (done : Step) → Accepts (done .outcome .answer) → Keeps (tested ts bufs done .outcome) bufs
 unfolding tested refusedOr refusal
 tested-keeps ts bufs done h = go (firstOf ts)

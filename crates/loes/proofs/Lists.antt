@@ -1,6 +1,6 @@
 -- filter, any, map and ones over ++ and over one another.
 use mathlib.Core.Path.{_≡_, refl, sym}
-use Prim.Native.Nat.{ℕ, zero, suc, _+_, _*_, _<_}
+use Prim.Native.Nat.{ℕ, zero, suc, _+_, _*_, _≤_, _<_}
 use mathlib.Core.Bool.{Bool, true, false, _||_, cond, or-assoc}
 use mathlib.Core.List.{List, [], _∷_, _++_, map}
 use native.Mathlib.Omega.{arith}
@@ -62,6 +62,13 @@ pub filter-all : {A : Type 0} (l : List A) → filter (λ (x : A). true) l ≡ l
 unfolding filter
 filter-all [] = refl
 filter-all (x ∷ l) = rw (filter-all l)
+
+pub length-filter : {A : Type 0} (f : A → Bool) (l : List A) → length (filter f l) ≤ length l
+unfolding filter
+length-filter f [] = omega arith
+length-filter f (x ∷ l) =
+    elim (f x) as (λ b. length (cond b (x ∷ filter f l) (filter f l)) ≤ suc (length l))
+    [ true ↦ omega (arith, length-filter f l) | false ↦ omega (arith, length-filter f l) ]
 
 pub getD-map-in : {A B : Type 0} (f : A → B) (l : List A) (i : ℕ) (d : A) (e : B) → i < length l → getD (map f l) i e ≡ f (getD l i d)
 getD-map-in f [] i d e h = absurd (omega arith)

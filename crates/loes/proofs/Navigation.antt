@@ -100,7 +100,7 @@ pub edges-empty : (m : ℕ) (s : KeySet) → inhabited m s ≡ false → edges m
 unfolding edges
 edges-empty m s h = edgesBefore-empty m m s h (omega arith)
 
-record-nil : (m : ℕ) (s : KeySet) → recordIndex [] m s ≡ 0
+pub record-nil : (m : ℕ) (s : KeySet) → recordIndex [] m s ≡ 0
 unfolding recordIndex recordsBefore prefixesBefore
 record-nil m s = refl
 

@@ -1,10 +1,10 @@
 -- The order of keys: the answer of seek is the smallest key not below, and byte order and bit order agree.
 use mathlib.Core.Path.{_≡_, refl, sym, ap, ap₂, _∙_}
 use Prim.Native.Nat.{ℕ, zero, suc, _+_, _-_, _*_, _/_, _%_, _^_, _≤_, _<_}
-use mathlib.Core.Bool.{Bool, true, false, _&&_, _||_, cond, not, or-false, and-false, false≢true}
-use mathlib.Core.List.{List, [], _∷_, _++_, append-nil, append-assoc}
+use mathlib.Core.Bool.{Bool, true, false, _&&_, _||_, not, or-false, and-false, false≢true}
+use mathlib.Core.List.{List, [], _∷_, _++_, append-nil}
 use mathlib.Core.Option.{none}
-use native.Mathlib.Nat.{zero-add, add-zero, add-suc}
+use native.Mathlib.Nat.{zero-add}
 use native.Mathlib.Omega.{arith}
 use native.Mathlib.Decide.{decLe}
 use lib.ListN.{length, getD, replicate, length-append, length-map}
@@ -16,10 +16,10 @@ use Rattle.loes.specs.Entry.{Entry, keyBytes, keysOf, count}
 use Rattle.loes.specs.Refusals.{firstOf}
 use Rattle.loes.specs.Model.{isNone, indexIs, tested, refusedOr, answers, keyIn, unusedSet, keyTest, lowerBound}
 use Rattle.loes.proofs.Tests.{lt-yes, yes-lt, lt-no, no-lt, eq-yes, eq-no}
-use Rattle.loes.proofs.Lists.{filter-append, filter-map, filter-none, filter-all}
+use Rattle.loes.proofs.Lists.{filter-append, filter-map, filter-none, filter-all, length-filter}
 use Rattle.loes.proofs.Tree.{half, members-step, length-members, prefixesBefore, index-lt, bit-le}
 use Rattle.loes.proofs.Bytes.{length-tabulate}
-use Rattle.loes.proofs.Bits.{at-bit, byte-bitsValue, tabulate-ext}
+use Rattle.loes.proofs.Bits.{at-bit, byte-bitsValue, tabulate-ext, tabulate-add}
 use Rattle.loes.proofs.Numbers.{AllBytes}
 use Rattle.loes.proofs.Members.{at-place}
 use Rattle.loes.proofs.Histories.{length-key}
@@ -32,14 +32,6 @@ lt-add a m n =
       | yes h ↦ lt-yes (a + m) (a + n) (omega arith) ∙ sym (lt-yes m n h)
       | no h ↦ lt-no (a + m) (a + n) (omega arith) ∙ sym (lt-no m n (omega arith))
     ]
-
--- no more are taken than there are
-length-filter : {A : Type 0} (f : A → Bool) (l : List A) → length (filter f l) ≤ length l
-unfolding filter
-length-filter f [] = omega arith
-length-filter f (x ∷ l) =
-    let h : length (filter f l) ≤ length l = length-filter f l in
-    elim (f x) as (λ b. length (cond b (x ∷ filter f l) (filter f l)) ≤ suc (length l)) [ true ↦ omega arith | false ↦ omega arith ]
 
 -- nothing is below the empty key
 less-nil : (j : Key) → less j [] ≡ false
@@ -170,12 +162,6 @@ unfolding less
 less-self [] = refl
 less-self (false ∷ k) = less-self k
 less-self (true ∷ k) = less-self k
-
--- a table is its first m entries and the others
-tabulate-add : {A : Type 0} (f : ℕ → A) (m n : ℕ) → tabulate f (m + n) ≡ tabulate f m ++ tabulate (λ i. f (m + i)) n
-unfolding tabulate
-tabulate-add f m zero = rw (add-zero, append-nil)
-tabulate-add f m (suc n) = rw (add-suc m n, tabulate-add f m n) (append-assoc (tabulate f m) (tabulate (λ i. f (m + i)) n) (f (m + n) ∷ []))
 
 -- behind the first byte's 8 bits come the other bytes' bits
 at-cons : (a : ℕ) (x : Bytes) (i : ℕ) → bitAt (a ∷ x) (8 + i) ≡ bitAt x i

@@ -11,7 +11,7 @@ use lib.ListN.{length, take, drop, getD, length-append, length-drop, take-append
 use lib.Seq.{take-at, drop-drop, drop-cons, length-take-le}
 use lib.Dec.{eqb, ltb}
 use Rattle.loes.specs.Limits.{blockBits, subBlockBits}
-use Rattle.loes.specs.Bytes.{Bytes, join, started, bigEndian, numberAt}
+use Rattle.loes.specs.Bytes.{Bytes, bit, join, started, bigEndian, numberAt}
 use Rattle.loes.specs.Keys.{members}
 use Rattle.loes.specs.Edges.{level, recordBits, edgesBefore, edges, ones, onesBefore}
 use Rattle.loes.specs.Entry.{Entry, keysOf, count, edgesOf, edgeCount, Valid}
@@ -37,6 +37,15 @@ before-le l zero = (omega arith, omega arith)
 before-le [] (suc n) = (omega arith, omega arith)
 before-le (true ∷ l) (suc n) = let r = before-le l n in (omega (arith, r .0), omega (arith, r .1))
 before-le (false ∷ l) (suc n) = let r = before-le l n in (omega (arith, r .0), omega (arith, r .1))
+
+pub before-suc : (l : List Bool) (n : ℕ) → onesBefore l (suc n) ≡ onesBefore l n + bit (getD l n false)
+unfolding onesBefore ones
+before-suc [] zero = refl
+before-suc [] (suc n) = refl
+before-suc (true ∷ l) zero = refl
+before-suc (false ∷ l) zero = refl
+before-suc (true ∷ l) (suc n) = omega (arith, before-suc l n)
+before-suc (false ∷ l) (suc n) = before-suc l n
 
 pub count-le : (e : Entry) → 0 < e .width → count e ≤ edgeCount e
 unfolding count keysOf edgeCount edgesOf edges

@@ -1,7 +1,7 @@
 -- Levels by recursion on the key's bits, and that they are the levels of the specification.
 use mathlib.Core.Path.{_≡_, refl, sym, ap, ap₂, _∙_}
 use Prim.Native.Nat.{ℕ, zero, suc, _+_, _*_, _≤_, _<_}
-use mathlib.Core.Bool.{Bool, true, false, _||_, cond, or-false, or-true, false≢true, true≢false}
+use mathlib.Core.Bool.{Bool, true, false, _||_, cond, or-false, or-true, false≢true}
 use mathlib.Core.List.{List, [], _∷_, _++_, map, map-append, map-map, append-nil}
 use native.Mathlib.Omega.{arith}
 use lib.ListN.{length, take, getD, length-append, length-map, List·getD-append}
@@ -9,6 +9,7 @@ use lib.Seq.{take-append-le, take-append-add, getD-append-add}
 use Rattle.loes.specs.Bytes.{bit}
 use Rattle.loes.specs.Keys.{Key, KeySet, allKeys, filter, any, members, isPrefix, less, smaller}
 use Rattle.loes.specs.Edges.{recordOf, found, level, Record, recordBits, ones}
+use Rattle.loes.proofs.Tests.{neither}
 use Rattle.loes.proofs.Lists.{filter-append, filter-map, any-append, any-map, any-none, ones-append, bits-append, length-bits, filter-none, filter-all, getD-map-in}
 
 -- the keys of a set that begin with b, without that bit
@@ -257,19 +258,23 @@ pub false-if : {a b : Bool} → (a ≡ true → b ≡ true) → b ≡ false → 
 false-if {a = true} f e = sym (f refl) ∙ e
 false-if {a = false} f e = refl
 
-pub or-none : (a b : Bool) → (a || b) ≡ false → (a ≡ false) × (b ≡ false)
-or-none true b h = absurd (true≢false h)
-or-none false b h = (refl, h)
-
--- an empty set has no record
+-- an empty set has no record, and no prefix
 pub tree-empty : (d m : ℕ) (s : KeySet) → inhabited m s ≡ false → treeLevel d m s ≡ []
 unfolding treeLevel inhabited
 tree-empty zero zero s h = refl
 tree-empty zero (suc m) s h = unfold rootRecord in rw h
 tree-empty (suc d) zero s h = refl
 tree-empty (suc d) (suc m) s h =
-    let z : (inhabited m (half false s) ≡ false) × (inhabited m (half true s) ≡ false) = or-none (inhabited m (half false s)) (inhabited m (half true s)) h in
+    let z : (inhabited m (half false s) ≡ false) × (inhabited m (half true s) ≡ false) = neither (inhabited m (half false s)) (inhabited m (half true s)) h in
     rw (tree-empty d m (half false s) (z .0), tree-empty d m (half true s) (z .1))
+
+pub count-none : (d m : ℕ) (s : KeySet) → inhabited m s ≡ false → prefixCount d m s ≡ 0
+unfolding prefixCount inhabited
+count-none zero m s h = rw h
+count-none (suc d) zero s h = refl
+count-none (suc d) (suc m) s h =
+    let z : (inhabited m (half false s) ≡ false) × (inhabited m (half true s) ≡ false) = neither (inhabited m (half false s)) (inhabited m (half true s)) h in
+    rw (count-none d m (half false s) (z .0), count-none d m (half true s) (z .1))
 
 -- the smaller members are the whole keys found before it
 pub none-smaller : (b : Bool) → length (filter (λ (j : Key). less j []) (cond b ([] ∷ []) [])) ≡ 0

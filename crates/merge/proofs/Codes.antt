@@ -14,8 +14,7 @@ use Rattle.loes.specs.Keys.{filter}
 use Rattle.loes.specs.Edges.{Record, recordBits}
 use Rattle.loes.proofs.Lists.{bits-append}
 use Rattle.loes.proofs.Bytes.{length-tabulate}
-use Rattle.loes.proofs.Bits.{tabulate-ext, bit-odd}
-use Rattle.merge.proofs.Lists.{map-tabulate}
+use Rattle.loes.proofs.Bits.{tabulate-ext, bit-odd, map-tabulate}
 use Rattle.merge.specs.Records.{hasEdge, recordOfCode, recordAt, recordsTo, Flag, flagAt, flagsTo, isFlag, withRecord, Put, Pushed}
 use Rattle.merge.specs.Union.{flagIf, childFlags, eitherRecord, takenRecord, Queued, RecordMerged}
 

@@ -7,10 +7,9 @@ use native.Mathlib.Decide.{le-ind}
 use lib.ListN.{length, length-append}
 use Rattle.loes.specs.Bytes.{Bytes, tabulate}
 use Rattle.loes.specs.Keys.{filter}
-use Rattle.loes.proofs.Lists.{filter-append}
+use Rattle.loes.proofs.Lists.{filter-append, length-filter}
 use Rattle.merge.specs.Records.{hasEdge, recordOfCode, recordAt, recordsTo, Pushed}
 use Rattle.merge.specs.Restriction.{Compacted}
-use Rattle.merge.proofs.Lists.{length-filter}
 use Rattle.merge.proofs.Codes.{records-more, length-records}
 
 pub compact-none : {q o : Bytes} → Compacted q 0 o o 0

@@ -18,9 +18,9 @@ use Rattle.loes.proofs.Lists.{length-bits}
 use Rattle.loes.proofs.Tree.{half, inhabited, treeLevel, tree-empty, length-root}
 use Rattle.loes.proofs.Bytes.{length-tabulate}
 use Rattle.loes.proofs.WellFormed.{recordsIn, records-bits}
+use Rattle.loes.proofs.Bits.{tabulate-add}
 use Rattle.merge.specs.Records.{recordAt, recordsTo}
 use Rattle.merge.specs.Union.{recordsFrom}
-use Rattle.merge.proofs.Lists.{tabulate-split}
 use Rattle.merge.proofs.Codes.{bits-recordsTo, length-records}
 use Rattle.merge.proofs.Merging.{treeLevels, levels-split, levels-more, edges-levels}
 
@@ -64,7 +64,7 @@ unfolding recordsFrom recordsTo
 level-at {d} {m} {s} {l} {r} o h =
     let z : r + (4 * length l - r) ≡ 4 * length l = omega (arith, o .fits) in
     let junk : List Record = tabulate (λ k. recordAt l (r + k)) (4 * length l - r) in
-    let e : tabulate (recordAt l) (4 * length l) ≡ tabulate (recordAt l) r ++ junk = rw z at (tabulate-split (recordAt l) r (4 * length l - r)) in
+    let e : tabulate (recordAt l) (4 * length l) ≡ tabulate (recordAt l) r ++ junk = rw z at (tabulate-add (recordAt l) r (4 * length l - r)) in
     let y : suc d + (m - suc d) ≡ m = omega arith in
     let more : List Record = treeLevels (m - suc d) (0 + suc d) m s in
     let f : treeLevels m 0 m s ≡ treeLevels (suc d) 0 m s ++ more = rw y at (levels-split (suc d) (m - suc d) 0 m s) in (

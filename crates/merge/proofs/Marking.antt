@@ -13,10 +13,9 @@ use Rattle.loes.specs.Edges.{Record}
 use Rattle.loes.proofs.Tests.{lt-yes, lt-no}
 use Rattle.loes.proofs.Lists.{getD-map-in}
 use Rattle.loes.proofs.Bytes.{length-tabulate, getD-tabulate}
-use Rattle.loes.proofs.Bits.{tabulate-ext, bit-odd}
+use Rattle.loes.proofs.Bits.{tabulate-ext, bit-odd, drop-tabulate}
 use Rattle.merge.specs.Records.{emptyRecord, hasEdge, children, childrenBefore, recordOfCode, recordAt, recordsTo, flagAt, isFlag, Put}
 use Rattle.merge.specs.Restriction.{maskRecord, maskedFrom, flagMask, keptAt, Entries, RecordMarked, Marked}
-use Rattle.merge.proofs.Lists.{drop-tabulate}
 use Rattle.merge.proofs.Codes.{record-eq}
 
 -- ---- One record

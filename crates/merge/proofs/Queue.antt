@@ -14,9 +14,9 @@ use Rattle.loes.specs.Read.{followed}
 use Rattle.loes.specs.Held.{held, Holds}
 use Rattle.loes.proofs.Tree.{inhabited, treeLevel}
 use Rattle.loes.proofs.Bytes.{length-tabulate, append-inj}
+use Rattle.loes.proofs.Bits.{tabulate-add}
 use Rattle.merge.specs.Records.{Flag, recordsTo, flagAt, flagsTo, flagsFrom, Pushed, Sealed}
 use Rattle.merge.specs.Union.{flagIf, merged, pushed, firstCount, secondCount, recordsFrom, LevelMerged, LevelRoom, Room, Merged}
-use Rattle.merge.proofs.Lists.{tabulate-split}
 use Rattle.merge.proofs.Codes.{bits-recordsTo, push-flag}
 use Rattle.merge.proofs.Merging.{levelFlags, treeLevels, queueFlags, over-pushed, over-merged, over-level, over-levels, levels-more, length-levels, flags-more, flags-members, edges-levels}
 use Rattle.merge.proofs.Levels.{length-one, length-pushed}
@@ -72,7 +72,7 @@ module _ {m : ℕ} {s t : KeySet} {a b q₀ o₀ : Bytes} {ra rb d from ka kb en
     unfolding flagsTo flagsFrom
     flags-at =
         let z : from + (end - from) ≡ end = omega (arith, from-le) in
-        let e : tabulate (flagAt q) end ≡ tabulate (flagAt q) from ++ tabulate (λ k. flagAt q (from + k)) (end - from) = rw z at (tabulate-split (flagAt q) from (end - from)) in
+        let e : tabulate (flagAt q) end ≡ tabulate (flagAt q) from ++ tabulate (λ k. flagAt q (from + k)) (end - from) = rw z at (tabulate-add (flagAt q) from (end - from)) in
         append-inj (tabulate (flagAt q) from) (queueFlags d 0 m s t) (tabulate (λ k. flagAt q (from + k)) (end - from)) (levelFlags d m s t)
         (length-tabulate (flagAt q) from ∙ from-is) (sym e ∙ v .queue ∙ flags-last) .1
 

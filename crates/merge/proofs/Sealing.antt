@@ -9,8 +9,8 @@ use lib.ListN.{length, getD, take, length-take}
 use lib.Seq.{length-take-le, getD-take}
 use Rattle.loes.specs.Bytes.{Bytes, odd, bitAt, bitsIn, started, packBits}
 use Rattle.loes.specs.Edges.{recordBits}
-use Rattle.loes.proofs.Bytes.{length-tabulate, length-packed}
-use Rattle.loes.proofs.Bits.{tabulate-ext, packed-bits, bits-packed}
+use Rattle.loes.proofs.Bytes.{length-packed}
+use Rattle.loes.proofs.Bits.{packed-bits, bits-packed, length-bitsIn, bit-taken, bits-taken}
 use Rattle.merge.specs.Records.{emptyRecord, recordOfCode, recordAt, Put, Sealed, Written}
 use Rattle.merge.proofs.Codes.{bits-recordsTo, records-same}
 
@@ -54,15 +54,6 @@ bit-record l o e = elim (decLe (o % 2) 0) [
   | no y ↦ let z : 2 * (o / 2) + 1 ≡ o = omega arith in rw z at (ap (λ r. r .onOne) e)
 ]
 
--- bits of the front bytes
-bit-take : (l : Bytes) (n o : ℕ) → o < 8 * n → bitAt (take n l) o ≡ bitAt l o
-unfolding bitAt
-bit-take l n o h = let g : o / 8 < n = omega arith in rw (getD-take n l (o / 8) 0)
-
-front-bits : (l : Bytes) (n m : ℕ) → m ≤ 8 * n → bitsIn (take n l) m ≡ bitsIn l m
-unfolding bitsIn
-front-bits l n m h = tabulate-ext (bitAt (take n l)) (bitAt l) m (λ i g. bit-take l n i (omega arith))
-
 full : (k i : ℕ) → i % 4 ≡ 0 → k ≤ i → i ≤ 4 * started 8 (2 * k) → i ≡ 4 * started 8 (2 * k)
 unfolding started
 full k i z f n = omega arith
@@ -77,20 +68,16 @@ sealed {o} {p} {k} {i} h z c small =
     let ni : i ≡ 4 * n = full k i z (c .from) (c .near) in
     let nl : n ≤ length p = rw (c .size) (room k (length o) h) in
     let ln : length (take n p) ≡ n = length-take-le n p nl in
-    let e1 : bitsIn (take n p) (2 * k) ≡ bitsIn p (2 * k) = front-bits p n (2 * k) (enough k) in
+    let e1 : bitsIn (take n p) (2 * k) ≡ bitsIn p (2 * k) = bits-taken p n (2 * k) (enough k) in
     let e2 : bitsIn p (2 * k) ≡ bitsIn o (2 * k) = bits-recordsTo p k ∙ ap recordBits (records-same p o k (c .front)) ∙ sym (bits-recordsTo o k) in
     record {
       bytes =
           sym (packed-bits (take n p) (2 * k) ln
           (λ j l. let g : j < n = omega arith in rw (getD-take n p j 0) (small j))
-          (λ b g l. bit-take p n b (omega arith) ∙ bit-record p b (c .behind (b / 2) (omega arith) (omega arith))))
+          (λ b g l. bit-taken p n b (omega arith) ∙ bit-record p b (c .behind (b / 2) (omega arith) (omega arith))))
           ∙ ap packBits (e1 ∙ e2);
       size = c .size;
     }
-
-length-bitsIn : (l : Bytes) (n : ℕ) → length (bitsIn l n) ≡ n
-unfolding bitsIn
-length-bitsIn l n = length-tabulate (bitAt l) n
 
 pub written : {e : List Bool} {k : ℕ} {o x p : Bytes} → bitsIn x (2 * k) ≡ e → length x ≡ length o → Sealed k x p → Written e o p (2 * k)
 written {k} {x} f n g = record { count = sym (length-bitsIn x (2 * k)) ∙ ap length f; bytes = g .bytes ∙ ap packBits f; size = g .size ∙ n }
@@ -98,7 +85,7 @@ written {k} {x} f n g = record { count = sym (length-bitsIn x (2 * k)) ∙ ap le
 pub written-bits : {e : List Bool} {o p : Bytes} {b : ℕ} → Written e o p b → bitsIn p b ≡ e
 written-bits {e} {p} {b} w =
     let f : bitsIn (take (started 8 b) p) b ≡ e = rw (w .bytes, w .count) (bits-packed e) in
-    sym (front-bits p (started 8 b) b (unfold started in omega arith)) ∙ f
+    sym (bits-taken p (started 8 b) b (unfold started in omega arith)) ∙ f
 
 room-of : (l : Bytes) (b : ℕ) → length (take (started 8 b) l) ≡ started 8 b → b ≤ 8 * length l
 unfolding started

@@ -9,19 +9,20 @@ use lib.Dec.{ltb, eqb}
 use Rattle.loes.specs.Bytes.{Bytes, bit, bitAt, bitsIn, tabulate, packBits}
 use Rattle.loes.specs.Keys.{Key, KeySet, members, filter, smaller, either, without}
 use Rattle.loes.specs.Edges.{Record, recordBits, ones, edges}
-use Rattle.loes.specs.Entry.{Entry, keysOf, count, edgesOf, edgeCount, withSet}
+use Rattle.loes.specs.Limits.{maxEdges}
+use Rattle.loes.specs.Entry.{Entry, keysOf, count, edgesOf, edgeCount, withSet, ofWidth}
+use Rattle.loes.proofs.Tests.{eq-yes}
 use Rattle.loes.specs.Read.{followed}
 use Rattle.loes.specs.Held.{held, Holds}
-use Rattle.loes.proofs.Lists.{bits-append, length-bits, ones-append, getD-map-in}
+use Rattle.loes.proofs.Lists.{bits-append, length-bits, ones-append, getD-map-in, length-filter}
 use Rattle.loes.proofs.Tree.{inhabited, prefixCount, length-members, prefixesBefore, before-smaller, members-at, index-lt}
-use Rattle.loes.proofs.Navigation.{recordsBefore, length-edgesBefore, ones-edgesBefore}
+use Rattle.loes.proofs.Navigation.{recordsBefore, length-edgesBefore, ones-edgesBefore, present-is}
 use Rattle.loes.proofs.Bytes.{getD-tabulate, length-tabulate}
-use Rattle.loes.proofs.Extensional.{edges-ext}
+use Rattle.loes.proofs.Extensional.{Agree, edges-ext, members-ext}
 use Rattle.loes.proofs.Forest.{NoEmpty}
 use Rattle.merge.specs.Records.{emptyRecord, hasEdge, children, childrenBefore, recordAt, recordsTo, Flag, flagAt, flagsFrom, isFlag, Written}
 use Rattle.merge.specs.Union.{flagOf, unionOf, differenceOf, Merged}
 use Rattle.merge.specs.Restriction.{restricted, flagMask, maskedFrom, Flagged, Entries, Marked, Restricted}
-use Rattle.merge.proofs.Lists.{length-filter}
 use Rattle.merge.proofs.Codes.{records-more, length-records}
 use Rattle.merge.proofs.Merging.{treeLevels, edges-levels}
 use Rattle.merge.proofs.Held.{RecordsHeld, held-records, held-length, some-records, edges-records}
@@ -201,3 +202,25 @@ module _ {m x : ℕ} {a : Bytes} {f : Entry} {q o p u z : Bytes} {b n : ℕ} (h 
         record { count = c .count ∙ ap length g; bytes = c .bytes ∙ ap packBits g; size = c .size ∙ v .edges .size },
         omega (arith, c .count, length-bits (filter hasEdge (recordsTo z (b / 2))), subtracted-count),
       )
+
+-- ---- A merge can be restricted
+same-set : (e : Entry) {o p : Bytes} {b : ℕ} → Written (edgesOf e) o p b → 0 < e .width → Agree (e .width) (held (e .width) b p .set) (e .set)
+unfolding edgesOf held followed ofWidth
+same-set e w h k l = rw (written-bits w, l, eq-yes (e .width)) (present-is k (e .width) (e .set) l h)
+
+same-edges : (e : Entry) {o p : Bytes} {b : ℕ} → Written (edgesOf e) o p b → 0 < e .width → edgesOf (held (e .width) b p) ≡ bitsIn p b
+unfolding edgesOf held followed
+same-edges e {o} {p} {b} w h =
+    edges-ext (e .width) (held (e .width) b p .set) (e .set) (same-set e (unfold edgesOf in w) h) ∙ sym (written-bits w)
+
+pub merged-flagged : {e f : Entry} {q o p u : Bytes} {b n : ℕ} → Merged e f q o p u b n → 0 < e .width → length q ≤ maxEdges → Flagged (e .width) b n u p
+unfolding count keysOf withSet held followed
+merged-flagged {e} {f} {p} {u} {b} v h l =
+    record {
+      positive = h;
+      same = same-edges (unionOf e f) (v .edges) h;
+      room = written-room (v .edges);
+      members = merged-count v ∙ ap length (sym (members-ext (e .width) (held (e .width) b u .set) (either (e .set) (f .set)) (same-set (unionOf e f) (v .edges) h)));
+      flags = v .fits;
+      small = rw (v .queue) l;
+    }

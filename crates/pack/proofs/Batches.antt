@@ -2,24 +2,23 @@
 use mathlib.Core.Path.{_≡_, refl, ap, _∙_}
 use Prim.Native.Nat.{ℕ, zero, suc, _+_, _*_, _/_, _%_, _≤_, _<_}
 use mathlib.Core.Bool.{or-true}
-use mathlib.Core.List.{List, [], _∷_, _++_, map, map-append}
+use mathlib.Core.List.{List, [], _∷_, _++_}
 use mathlib.Core.Option.{none, some}
 use mathlib.Core.Logic.{_⊎_, inl, inr}
 use native.Mathlib.Omega.{arith}
 use native.Mathlib.Nat.{div-add-mod}
 use lib.ListN.{length, take, drop}
-use lib.Seq.{getD-take}
 use lib.Dec.{ltb}
 use borrow.Author.Tests.{eq-eqb, ne-eqb}
 use Rattle.loes.specs.Limits.{maxWidth, maxEdges}
-use Rattle.loes.specs.Bytes.{Bytes, tabulate, started, bitAt, bitsIn, join}
+use Rattle.loes.specs.Bytes.{Bytes, tabulate, started, join}
 use Rattle.loes.specs.Keys.{Key, less, setOf}
 use Rattle.loes.specs.Edges.{edges}
 use Rattle.loes.specs.Entry.{keyBytes, edgesOf, edgeCount, wrongWidth, tooManyEdges}
 use Rattle.loes.specs.Refusals.{badWidth, tooLarge, raggedBatch, unusedBitSet, descending, test, firstOf}
 use Rattle.loes.specs.Model.{keyIn, unusedSet, batchKeys, risingTests, packTests, batchEntry}
 use Rattle.loes.proofs.Tests.{lt-yes, lt-no, no-lt, yes-eq, not-false, neither, none-append, none-test, none-first, some-first}
-use Rattle.loes.proofs.Bits.{tabulate-ext}
+use Rattle.loes.proofs.Bits.{tabulate-ext, map-tabulate, bits-taken}
 use Rattle.loes.proofs.Navigation.{recordsBefore, length-edgesBefore}
 use Rattle.pack.specs.Rising.{setBelow, Rising}
 use Rattle.pack.specs.Batch.{key, previous, keyTests, testsBelow, Batch}
@@ -27,22 +26,13 @@ use Rattle.pack.specs.Packing.{edgeTests}
 use Rattle.pack.proofs.KeyTests.{rising, below-suc}
 
 -- ---- keys of t bytes
-bits-taken : (t n : ℕ) (x : Bytes) → n ≤ 8 * t → bitsIn (take t x) n ≡ bitsIn x n
-unfolding bitsIn bitAt
-bits-taken t n x h = tabulate-ext (bitAt (take t x)) (bitAt x) n (λ i l. let q : i / 8 < t = omega arith in rw getD-take)
-
 key-taken : (m : ℕ) (x : Bytes) → keyIn m (take (keyBytes m) x) ≡ keyIn m x
 unfolding keyIn keyBytes started
-key-taken m x = bits-taken ((m + 7) / 8) m x (omega arith)
+key-taken m x = bits-taken x ((m + 7) / 8) m (omega arith)
 
 unused-taken : (m : ℕ) (x : Bytes) → unusedSet m (take (keyBytes m) x) ≡ unusedSet m x
 unfolding unusedSet
-unused-taken m x = rw (bits-taken (keyBytes m) (8 * keyBytes m) x (omega arith))
-
-map-tabulate : {A B : Type 0} (f : A → B) (g : ℕ → A) (n : ℕ) → map f (tabulate g n) ≡ tabulate (λ (i : ℕ). f (g i)) n
-unfolding tabulate
-map-tabulate f g zero = refl
-map-tabulate f g (suc n) = map-append f (tabulate g n) (g n ∷ []) ∙ ap (λ x. x ++ f (g n) ∷ []) (map-tabulate f g n)
+unused-taken m x = rw (bits-taken x (keyBytes m) (8 * keyBytes m) (omega arith))
 
 -- ---- tests from the front, and from behind
 unfoldable lastKey : ℕ → Key → List Bytes → Key

@@ -12,7 +12,7 @@ use lib.Dec.{leb, leb·zero, leb·suc-zero, leb·suc-suc}
 use Rattle.loes.specs.Bytes.{tabulate, bit}
 use Rattle.loes.specs.Keys.{Key, KeySet, any, sameKey, setOf, less}
 use Rattle.loes.proofs.Lists.{any-append}
-use Rattle.loes.proofs.Tree.{half, inhabited, prefixCount, hasPrefix, prefixesBefore, prefix-of, prefix-inhabited, count-one, false-if, or-none}
+use Rattle.loes.proofs.Tree.{half, inhabited, prefixCount, hasPrefix, prefixesBefore, prefix-of, prefix-inhabited, count-one, false-if, count-none}
 use Rattle.pack.specs.Rising.{insert, commonPrefix, firstNew, setBelow, Rising}
 
 -- ---- one key more, by its first bit
@@ -63,14 +63,6 @@ inhabited-none zero s h = h [] refl
 inhabited-none (suc m) s h =
     rw (inhabited-none m (half false s) (λ j l. unfold half in h (false ∷ j) (ap suc l)), inhabited-none m (half true s) (λ j l. unfold half in h (true ∷ j) (ap suc l)))
 
-pub count-empty : (e m : ℕ) (s : KeySet) → inhabited m s ≡ false → prefixCount e m s ≡ 0
-unfolding prefixCount inhabited
-count-empty zero m s h = rw h
-count-empty (suc e) zero s h = refl
-count-empty (suc e) (suc m) s h =
-    let z : (inhabited m (half false s) ≡ false) × (inhabited m (half true s) ≡ false) = or-none (inhabited m (half false s)) (inhabited m (half true s)) h in
-    rw (count-empty e m (half false s) (z .0), count-empty e m (half true s) (z .1))
-
 -- ---- the greatest key
 -- none of the set is above k
 abbrev pub Under : ℕ → KeySet → Key → Type 0
@@ -109,7 +101,7 @@ top-before zero k m s l inhabited-k u h = sym (count-one m s (prefix-of [] k m s
 top-before (suc e) k zero s l inhabited-k u h = absurd (omega arith)
 top-before (suc e) [] (suc m) s l inhabited-k u h = absurd (omega arith)
 top-before (suc e) (false ∷ k) (suc m) s l inhabited-k u h =
-    rw (count-empty e m (half true s) (under-none m s k u)) (omega (arith, top-before e k m (half false s) (omega arith) inhabited-k (under-half false m s k u) (omega arith)))
+    rw (count-none e m (half true s) (under-none m s k u)) (omega (arith, top-before e k m (half false s) (omega arith) inhabited-k (under-half false m s k u) (omega arith)))
 top-before (suc e) (true ∷ k) (suc m) s l inhabited-k u h =
     rw (length-take-le e k (omega arith)) (omega (arith, top-before e k m (half true s) (omega arith) inhabited-k (under-half true m s k u) (omega arith)))
 
@@ -203,7 +195,7 @@ below-wide m f w (suc n) k e =
     ⊎-elim ih (λ a. ap length (same-eq k (f n) a) ∙ w n) (or-cases (setBelow f n k) (sameKey k (f n)) (rw (below-suc f n) at e))
 
 pub count-start : (m : ℕ) (f : ℕ → Key) (e : ℕ) → prefixCount e m (setBelow f 0) ≡ 0
-count-start m f e = count-empty e m (setBelow f 0) (inhabited-none m (setBelow f 0) (λ j l. below-zero f j))
+count-start m f e = count-none e m (setBelow f 0) (inhabited-none m (setBelow f 0) (λ j l. below-zero f j))
 
 module _ (m n : ℕ) (f : ℕ → Key) (r : Rising m n f) where
   pub up-under : (i : ℕ) → i < n → Under m (setBelow f (suc i)) (f i)

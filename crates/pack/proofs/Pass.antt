@@ -12,7 +12,8 @@ use Rattle.loes.specs.Bytes.{bit, tabulate, bitsValue, byteOf, packBits, starte
 use Rattle.loes.specs.Keys.{Key, KeySet}
 use Rattle.loes.specs.Edges.{recordBits, edges}
 use Rattle.loes.proofs.Lists.{bits-append}
-use Rattle.loes.proofs.Tree.{half, inhabited, prefixCount, hasPrefix, or-none}
+use Rattle.loes.proofs.Tests.{neither}
+use Rattle.loes.proofs.Tree.{half, inhabited, prefixCount, hasPrefix}
 use Rattle.loes.proofs.Navigation.{recordsBefore}
 use Rattle.loes.proofs.Bytes.{length-packed}
 use Rattle.loes.proofs.Bits.{tabulate-ext}
@@ -63,10 +64,10 @@ marked-none : (d m : ℕ) (s t : KeySet) → inhabited m t ≡ false → d < m �
 unfolding marked prefixCount inhabited
 marked-none d zero s t e h = absurd (omega arith)
 marked-none zero (suc m) s t e h =
-    let z : (inhabited m (half false t) ≡ false) × (inhabited m (half true t) ≡ false) = or-none (inhabited m (half false t)) (inhabited m (half true t)) e in
+    let z : (inhabited m (half false t) ≡ false) × (inhabited m (half true t) ≡ false) = neither (inhabited m (half false t)) (inhabited m (half true t)) e in
     rw (z .0, z .1) (bits-none (inhabited (suc m) s))
 marked-none (suc d) (suc m) s t e h =
-    let z : (inhabited m (half false t) ≡ false) × (inhabited m (half true t) ≡ false) = or-none (inhabited m (half false t)) (inhabited m (half true t)) e in
+    let z : (inhabited m (half false t) ≡ false) × (inhabited m (half true t) ≡ false) = neither (inhabited m (half false t)) (inhabited m (half true t)) e in
     let w : 2 * (prefixCount d m (half false s) + prefixCount d m (half true s)) ≡ 2 * prefixCount d m (half false s) + 2 * prefixCount d m (half true s) = omega arith in
     rw (
       bits-append (marked d m (half false s) (half false t)) (marked d m (half true s) (half true t)),

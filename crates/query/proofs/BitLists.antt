@@ -5,12 +5,12 @@ use mathlib.Core.Bool.{Bool, true, false, false≢true}
 use mathlib.Core.List.{List, [], _∷_, _++_}
 use native.Mathlib.Omega.{arith}
 use native.Mathlib.Decide.{le-ind, decLe}
-use lib.ListN.{length, take, getD, length-take, List·getD-eq-default}
+use lib.ListN.{length, take, getD, List·getD-eq-default}
 use lib.Seq.{take-append-le, take-all}
 use Rattle.loes.specs.Bytes.{Bytes, tabulate, bitAt, bitsIn}
 use Rattle.loes.specs.Edges.{ones, onesBefore, rank}
-use Rattle.loes.proofs.Seven.{ones-le}
-use Rattle.bits.proofs.Counts.{length-bitsIn}
+use Rattle.loes.proofs.Bits.{length-bitsIn}
+use Rattle.loes.proofs.Seven.{before-suc}
 
 pub up : (n : ℕ) → suc n ≡ n + 1
 up n = omega arith
@@ -38,13 +38,5 @@ ones-less (false ∷ e) zero h = absurd (false≢true h)
 ones-less (false ∷ e) (suc o) h = ones-less e o h
 
 pub rank-is : (e : List Bool) (o : ℕ) → getD e o false ≡ true → rank e o ≡ suc (onesBefore e o)
-unfolding rank onesBefore ones
-rank-is [] o h = absurd (false≢true h)
-rank-is (true ∷ e) zero h = refl
-rank-is (true ∷ e) (suc o) h = ap suc (rank-is e o h)
-rank-is (false ∷ e) zero h = absurd (false≢true h)
-rank-is (false ∷ e) (suc o) h = rank-is e o h
-
-pub ones-before-le : (e : List Bool) (o : ℕ) → onesBefore e o ≤ o
-unfolding onesBefore
-ones-before-le e o = let z = ones-le (take o e) in omega (arith, z, length-take o e)
+unfolding rank
+rank-is e o h = before-suc e o ∙ rw h (omega arith)

@@ -10,8 +10,8 @@ use Rattle.loes.specs.Bytes.{bit}
 use Rattle.loes.specs.Keys.{Key, KeySet, members, smaller}
 use Rattle.loes.specs.Edges.{Record, recordBits, ones, edges, edgesBefore}
 use Rattle.loes.proofs.Lists.{ones-append, bits-append, length-bits}
-use Rattle.loes.proofs.Tree.{half, inhabited, rootRecord, treeLevel, prefixCount, ones-tree, length-tree, hasPrefix, prefixesBefore, before-lt, bit-le, length-snoc, prefix-shorter, count-one, prefix-whole, prefix-inhabited, or-none, false-if, before-smaller}
-use Rattle.loes.proofs.Navigation.{recordsBefore, length-edgesBefore, ones-edgesBefore, edges-at, recordIndex, nav-bit, edges-empty}
+use Rattle.loes.proofs.Tree.{half, inhabited, rootRecord, treeLevel, prefixCount, ones-tree, length-tree, hasPrefix, prefixesBefore, before-lt, bit-le, length-snoc, prefix-shorter, count-one, prefix-whole, prefix-inhabited, false-if, before-smaller, count-none}
+use Rattle.loes.proofs.Navigation.{length-edgesBefore, ones-edgesBefore, edges-at, recordIndex, nav-bit, edges-empty}
 use Rattle.query.specs.Descent.{edgeFrom}
 
 pub before-le : (p : Key) (m : ℕ) (s : KeySet) → length p ≤ m → prefixesBefore p m s ≤ prefixCount (length p) m s
@@ -102,10 +102,6 @@ pub record-end : (k : Key) (m : ℕ) (s : KeySet) → length k ≡ m → recordI
 unfolding recordIndex edges
 record-end k m s l = rw (before-smaller k m s l, l, length-edgesBefore m m s (omega arith)) (omega arith)
 
-pub record-first : (m : ℕ) (s : KeySet) → recordIndex [] m s ≡ 0
-unfolding recordIndex recordsBefore prefixesBefore
-record-first m s = refl
-
 -- a sequence that is not empty is of a set that is not
 pub inhabited-some : (m : ℕ) (s : KeySet) → 0 < length (edges m s) → inhabited m s ≡ true
 inhabited-some m s h = go (inhabited m s) refl
@@ -113,14 +109,6 @@ inhabited-some m s h = go (inhabited m s) refl
     go : (c : Bool) → inhabited m s ≡ c → c ≡ true
     go true e = refl
     go false e = absurd (omega (arith, rw (edges-empty m s e) at h))
-
-pub count-none : (d m : ℕ) (s : KeySet) → inhabited m s ≡ false → prefixCount d m s ≡ 0
-unfolding prefixCount inhabited
-count-none zero m s h = rw h
-count-none (suc d) zero s h = refl
-count-none (suc d) (suc m) s h =
-    let z : (inhabited m (half false s) ≡ false) × (inhabited m (half true s) ≡ false) = or-none (inhabited m (half false s)) (inhabited m (half true s)) h in
-    rw (count-none d m (half false s) (z .0), count-none d m (half true s) (z .1))
 
 pub inhabited-none : (m : ℕ) (s : KeySet) → 0 < m → length (edges m s) ≡ 0 → inhabited m s ≡ false
 inhabited-none m s l h = go (inhabited m s) refl

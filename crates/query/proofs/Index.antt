@@ -1,6 +1,6 @@
 -- The index fields choose where a search for a set bit starts.
 use mathlib.Core.Path.{_≡_, refl, sym, ap, ap₂, _∙_}
-use Prim.Native.Nat.{ℕ, _+_, _-_, _*_, _/_, _%_, _≤_, _<_}
+use Prim.Native.Nat.{ℕ, _+_, _-_, _*_, _/_, _≤_, _<_}
 use mathlib.Core.Bool.{Bool}
 use mathlib.Core.List.{List}
 use native.Mathlib.Omega.{arith}
@@ -23,10 +23,6 @@ use Rattle.query.proofs.Select.{ones-mono, select-more}
 pub first-block : (e : List Bool) → blockOnes e 0 ≡ 0
 unfolding blockOnes onesBefore ones
 first-block e = refl
-
-pub first-sub-block : (e : List Bool) (j : ℕ) → subBlockOnes e (128 * j) ≡ 0
-unfolding subBlockOnes onesBefore ones
-first-sub-block e j = let z : 128 * j % 128 ≡ 0 = omega arith in rw z
 
 module _ (l : Bytes) (e : Encoding) (o : Opens l e) where
   pub block-at : (j : ℕ) → blockBits * j < e .bits → (e .blocks + 8 * j + 8 ≤ length l) × (numberAt 8 l (e .blocks + 8 * j) ≡ blockOnes (edgesOf (entryIn l)) j)

@@ -10,11 +10,11 @@ use Rattle.loes.specs.Keys.{smaller}
 use Rattle.loes.specs.Edges.{edges, onesBefore}
 use Rattle.loes.specs.Entry.{Entry, keysOf, edgesOf, edgeCount, Valid}
 use Rattle.loes.proofs.Tree.{inhabited, hasPrefix, prefix-whole}
-use Rattle.loes.proofs.Navigation.{recordIndex}
-use Rattle.bits.proofs.Counts.{length-bitsIn}
+use Rattle.loes.proofs.Navigation.{recordIndex, record-nil}
+use Rattle.loes.proofs.Bits.{length-bitsIn}
 use Rattle.query.specs.Descent.{edgeFrom, Way, Located}
 use Rattle.query.proofs.BitLists.{up, bits-suc}
-use Rattle.query.proofs.Descent.{edge-le, edge-lt, record-step, found-step, record-end, record-first, inhabited-some, inhabited-none, none-smaller, none-in}
+use Rattle.query.proofs.Descent.{edge-le, edge-lt, record-step, found-step, record-end, inhabited-some, inhabited-none, none-smaller, none-in}
 
 module _ (e : Entry) (h : Valid e) (key : Bytes) where
   pub some-key : 0 < edgeCount e → inhabited (e .width) (e .set) ≡ true
@@ -51,7 +51,7 @@ module _ (e : Entry) (h : Valid e) (key : Bytes) where
         }
 
   pub way-first : 0 < edgeCount e → Way e key 0 0 true
-  way-first q = record { at = unfold bitsIn tabulate in sym (record-first (e .width) (e .set)); on = unfold bitsIn tabulate hasPrefix in sym (some-key q) }
+  way-first q = record { at = unfold bitsIn tabulate in sym (record-nil (e .width) (e .set)); on = unfold bitsIn tabulate hasPrefix in sym (some-key q) }
 
   -- at the end
   pub way-located : (w b r : ℕ) (f : Bool) → w ≡ e .width → b ≡ edgeCount e → Way e key w r f → (b / 2 ≤ r) × Located e (bitsIn key w) (r - b / 2) f

@@ -13,9 +13,8 @@ use Rattle.loes.specs.Edges.{rank, edges, edgeOffsets}
 use Rattle.loes.proofs.Bits.{bit-odd, odd-bit}
 use Rattle.loes.proofs.Bytes.{length-tabulate}
 use Rattle.loes.proofs.Tree.{inhabited, hasPrefix, bit-le, prefix-of}
-use Rattle.loes.proofs.Navigation.{recordIndex, nav-bit, nav-rank, edges-empty}
+use Rattle.loes.proofs.Navigation.{recordIndex, nav-bit, nav-rank, edges-empty, record-nil}
 use Rattle.query.specs.Paths.{recordAt, Leading, keyOf}
-use Rattle.query.proofs.Descent.{record-first}
 
 -- ---- The key of a path
 pub key-length : (g : ℕ → ℕ) (d : ℕ) → length (keyOf g d) ≡ d
@@ -81,7 +80,7 @@ module _ (m : ℕ) (s : KeySet) (k : Key) (size : length k ≡ m) (inside : s k 
 
   pub member-leads : (d : ℕ) → d ≤ m → Leading (edges m s) d (ofKey m s k) × (recordAt (edges m s) (ofKey m s k) d ≡ recordIndex (take d k) m s)
   unfolding recordAt ofKey
-  member-leads zero l = (tt, sym (record-first m s))
+  member-leads zero l = (tt, sym (record-nil m s))
   member-leads (suc d) l =
       let i = member-leads d (omega arith) in
       let b : Bool = getD k d false in

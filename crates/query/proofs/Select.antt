@@ -12,8 +12,9 @@ use Rattle.loes.specs.Edges.{ones, onesBefore}
 use Rattle.loes.proofs.Lists.{ones-append}
 use Rattle.loes.proofs.Bytes.{length-tabulate}
 use Rattle.bits.specs.Tables.{select, bits8, placeOf, Places}
-use Rattle.bits.proofs.Counts.{length-bitsIn, byte-more}
+use Rattle.bits.proofs.Counts.{byte-more}
 use Rattle.loes.proofs.Seven.{ones-le}
+use Rattle.loes.proofs.Bits.{length-bitsIn}
 use Rattle.query.specs.Select.{numbered}
 use Rattle.query.proofs.BitLists.{take-bits}
 

@@ -12,7 +12,8 @@ use Rattle.loes.specs.Bytes.{Bytes, tabulate, bitsIn}
 use Rattle.loes.specs.Edges.{ones, onesBefore}
 use Rattle.loes.proofs.Ends.{roots, ends, ends-grow}
 use Rattle.loes.proofs.Seven.{before-le}
-use Rattle.bits.proofs.Counts.{before-bits, length-bitsIn}
+use Rattle.loes.proofs.Bits.{length-bitsIn}
+use Rattle.bits.proofs.Counts.{before-bits}
 use Rattle.build.specs.Writing.{Counts}
 use Rattle.build.proofs.Shape.{roots-le, held-ends, ends-le, enough, held-count}
 use Rattle.build.proofs.level_ends.Statement.{statement}

@@ -15,7 +15,7 @@ encoding-of-requires : tie.Need-encoding-of-requires
 encoding-of-requires c κs = search needs
 
 rank-in-requires : tie.Need-rank-in-requires
-rank-in-requires c κs = (subst (Opens _) (sym (c .encoding-of .ensures)) (c .before .before .before .before .before .pre), c .before .before .tallies .ensures)
+rank-in-requires c κs = (subst (Opens _) (sym (c .encoding-of .ensures)) (c .before .before .before .before .pre), c .before .before .tallies .ensures)
 
 ranked-requires : tie.Need-ranked-requires
 ranked-requires c κs = search needs

@@ -1,11 +1,11 @@
 use lib.ListN.{length}
-use Rattle.query.proofs.BitLists.{ones-before-le}
 use mathlib.Core.Path.{ap}
 use native.Mathlib.Omega.{arith}
 use denote.Ref.{now}
 use Prim.Native.Nat.{_-_, _≤_, _<_, _+_}
 use Rattle.loes.specs.Entry.{edgesOf, edgeCount}
 use Rattle.loes.specs.Read.{entryIn}
+use Rattle.loes.proofs.Seven.{before-le}
 use Rattle.encoding.proofs.Opened.{opens-valid, opens-room}
 use Rattle.cursor.proofs.Outset.{FirstTo, first-start, first-room, first-next, first-end}
 use Rattle.cursor.proofs.first_path.Statement.{statement}
@@ -49,7 +49,7 @@ add-r c =
     let l = c .before .before .before in
     let s = start l in
     let z = first-room _ (opens-valid _ _ (s .pre .0)) (some s) _ (long s) _ _ _ (l .loop .inv) (inside l (c .before .before .loop-test .taken)) .1 in
-    omega (arith, z, c .before .first-edge .ensures, c .ones-before .ensures, ones-before-le (edgesOf (entryIn (now (s .args .l)))) (c .before .first-edge .result .0), s .pre .0 .bits, opens-room _ _ (s .pre .0) .few)
+    omega (arith, z, c .before .first-edge .ensures, c .ones-before .ensures, before-le (edgesOf (entryIn (now (s .args .l)))) (c .before .first-edge .result .0) .0, s .pre .0 .bits, opens-room _ _ (s .pre .0) .few)
 
 add-d : tie.Need-add-d Inv-loop μ-loop
 add-d c = let l = c .before .before .before in omega (arith, c .before .before .loop-test .taken, opens-room _ _ (start l .pre .0) .narrow)

@@ -1,4 +1,3 @@
-use Rattle.query.proofs.BitLists.{ones-before-le}
 use mathlib.Core.Path.{ap, _∙_}
 use native.Mathlib.Omega.{arith}
 use denote.Ref.{now}
@@ -8,6 +7,7 @@ use lib.ListN.{getD}
 use Rattle.loes.specs.Edges.{onesBefore}
 use Rattle.loes.specs.Entry.{edgesOf}
 use Rattle.loes.specs.Read.{entryIn}
+use Rattle.loes.proofs.Seven.{before-le}
 use Rattle.encoding.proofs.Opened.{opens-room}
 use Rattle.query.specs.Descent.{edgeFrom}
 use borrow.Author.Needs.{needs}
@@ -27,7 +27,7 @@ edge-set-requires c κs = let s = c .before .before .before .before in (s .pre .
 add-t10 : tie.Need-add-t10
 add-t10 c =
     let s = c .before .before .before .before .before in
-    omega (arith, c .before .ones-before .ensures, ones-before-le (edgesOf (entryIn (now (s .args .l)))) (c .before .before .edge-from .result .0), c .before .before .edge-from .ensures, s .pre .2, opens-room _ _ (s .pre .0) .few)
+    omega (arith, c .before .ones-before .ensures, before-le (edgesOf (entryIn (now (s .args .l)))) (c .before .before .edge-from .result .0) .0, c .before .before .edge-from .ensures, s .pre .2, opens-room _ _ (s .pre .0) .few)
 
 returns : tie.Need-returns
 returns c =

@@ -9,9 +9,9 @@ use Prim.Native.Nat.{ℕ, _+_, _*_, _-_, _≤_, _<_}
 use Rattle.loes.specs.Limits.{subBlockBits, subBlocks}
 use Rattle.loes.specs.Encode.{subBlockOnes}
 use Rattle.encoding.proofs.Opened.{opens-room}
-use Rattle.query.proofs.Index.{first-sub-block}
 use Rattle.loes.specs.Entry.{edgesOf}
 use Rattle.loes.specs.Read.{entryIn}
+use Rattle.encoding.proofs.Pass.{sub-block-first}
 use Rattle.query.proofs.sub_block_of.Statement.{statement}
 use Rattle.query.proofs.sub_block_of.Tie as tie
 
@@ -34,7 +34,7 @@ add-high : tie.Need-add-high Inv-loop μ-loop
 add-high c = let s = c .before in omega (arith, opens-room _ _ (s .pre .0) .few, s .pre .1)
 
 loop-holds : tie.Need-loop-holds Inv-loop μ-loop
-loop-holds c = let s = c .before in ((omega arith, omega arith, omega arith), omega (arith, s .pre .1), omega (arith, first-sub-block (edgesOf (entryIn (now (s .args .l)))) (s .args .block)), λ h. absurd (omega arith))
+loop-holds c = let s = c .before in ((omega arith, omega arith, omega arith), omega (arith, s .pre .1), omega (arith, sub-block-first (edgesOf (entryIn (now (s .args .l)))) (subBlocks * s .args .block) (omega arith)), λ h. absurd (omega arith))
 
 add-loop : tie.Need-add-loop Inv-loop μ-loop
 add-loop c = let s = c .before .before in omega (arith, opens-room _ _ (s .pre .0) .few, s .pre .1)
