@@ -169,7 +169,7 @@ loes_answer loes_opened_rank(loes_opened opened, const uint8_t *encoding, size_t
 loes_step loes_opened_advance(loes_opened opened, const uint8_t *encoding, size_t length,
                               uint64_t state, uint64_t *offsets, size_t count, uint8_t *out, size_t room);
 
-/* loes_opened_advance without its test of the cursor (15), many times faster. REQUIRED besides: the
+/* loes_opened_advance without its test of the cursor (15), several times faster. REQUIRED besides: the
  * cursor is right, that is, LOES_BEFORE with every offset 0, or as a step over these bytes left it
  * that was not refused 15. The only refusal is 14. */
 loes_step loes_opened_next(loes_opened opened, const uint8_t *encoding, size_t length,
