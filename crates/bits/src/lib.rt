@@ -37,28 +37,35 @@ pub fn unused_set(key: &[u8], t: usize, m: usize) -> bool
     x % (1u8 << (8 * t - m)) != 0
 }
 
+// What the byte before a byte, the two before two and the four before four weigh.
+const BYTE: usize = 256;
+
+const TWO_BYTES: usize = BYTE * BYTE;
+
+const FOUR_BYTES: usize = TWO_BYTES * TWO_BYTES;
+
 // The number in two bytes at a place, most significant byte first.
 pub fn number2(l: &[u8], at: usize) -> usize
     requires { ⌜ at + 2 ≤ length (now l) ⌝ }
     ensures { λ r. ⌜ (r ≡ numberAt 2 (now (l .entry)) at) × (r < 2 ^ 16) ⌝ }
 {
-    (l[at] as usize) * 256 + (l[at + 1] as usize)
+    (l[at] as usize) * BYTE + (l[at + 1] as usize)
 }
 
-// In four: the first two weigh 2^16.
+// In four.
 pub fn number4(l: &[u8], at: usize) -> usize
     requires { ⌜ at + 4 ≤ length (now l) ⌝ }
     ensures { λ r. ⌜ (r ≡ numberAt 4 (now (l .entry)) at) × (r < 2 ^ 32) ⌝ }
 {
-    number2(l, at) * 65_536 + number2(l, at + 2)
+    number2(l, at) * TWO_BYTES + number2(l, at + 2)
 }
 
-// In eight: the first four weigh 2^32.
+// In eight.
 pub fn number8(l: &[u8], at: usize) -> usize
     requires { ⌜ at + 8 ≤ length (now l) ⌝ }
     ensures { λ r. ⌜ r ≡ numberAt 8 (now (l .entry)) at ⌝ }
 {
-    number4(l, at) * 4_294_967_296 + number4(l, at + 4)
+    number4(l, at) * FOUR_BYTES + number4(l, at + 4)
 }
 
 // What a byte with an empty record adds to its tally; the set bits of 64 bytes stay below it.

@@ -250,6 +250,7 @@ fn length_of(m: usize, b: usize) -> usize
         + 2 * ((b + SUB_BLOCK_REST) / Encoding::SUB_BLOCK_BITS)
 }
 
+// Room for the levels' ends.
 fn no_ends() -> [usize; Encoding::MAX_WIDTH]
     ensures { λ r. ⌜ length r ≡ maxWidth ⌝ }
 {

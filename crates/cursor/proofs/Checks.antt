@@ -16,9 +16,8 @@ use Rattle.loes.specs.Entry.{Entry, keysOf, edgesOf, Valid}
 use Rattle.loes.specs.Cursor.{at, allZero, offsetsRight, pathOf}
 use Rattle.loes.proofs.Bits.{odd-bit}
 use Rattle.loes.proofs.Tests.{lt-no, yes-eq, both}
-use Rattle.query.specs.Paths.{recordAt, Leading}
 use Rattle.query.proofs.BitLists.{up, set-below, rank-is}
-use Rattle.query.proofs.Paths.{leading-less}
+use Rattle.query.proofs.Paths.{recordAt, Leading, leading-less}
 use Rattle.cursor.specs.Moves.{leadsOn, turns, firstEdge, behind, movedOn, Moved, Movable, hasPath}
 use Rattle.cursor.proofs.Right.{lead-right, right-leads}
 use Rattle.cursor.proofs.Moves.{moved-above}

@@ -14,9 +14,9 @@ use Rattle.loes.proofs.Bits.{odd-bit}
 use Rattle.loes.proofs.Tree.{inhabited, treeLevel, prefixCount, ones-tree, length-tree, hasPrefix, prefixesBefore, edge-bit, edge-rank, count-one, length-members}
 use Rattle.loes.proofs.Navigation.{recordIndex, nav-bit}
 use Rattle.loes.proofs.Seven.{before-suc}
-use Rattle.query.specs.Paths.{recordAt, Leading, keyOf}
+use Rattle.query.specs.Paths.{keyOf}
 use Rattle.query.proofs.Descent.{step-before}
-use Rattle.query.proofs.Paths.{key-length, key-suc, split}
+use Rattle.query.proofs.Paths.{recordAt, Leading, key-length, key-suc, split}
 use Rattle.cursor.specs.Moves.{turns, firstEdge}
 use Rattle.cursor.proofs.Moves.{path-prefix, record-some, first-set, first-half}
 

@@ -16,8 +16,8 @@ use Rattle.loes.proofs.Tests.{lt-yes, lt-no, eq-yes}
 use Rattle.loes.proofs.Tree.{half, inhabited, hasPrefix, prefixesBefore, bit-le, prefix-whole, members-at}
 use Rattle.loes.proofs.Navigation.{recordsBefore, recordIndex, nav-bit, nav-rank, record-nil}
 use Rattle.loes.proofs.Seven.{before-suc}
-use Rattle.query.specs.Paths.{recordAt, Leading, keyOf}
-use Rattle.query.proofs.Paths.{key-length, key-suc, split}
+use Rattle.query.specs.Paths.{keyOf}
+use Rattle.query.proofs.Paths.{recordAt, Leading, key-length, key-suc, split}
 use Rattle.cursor.specs.Moves.{turns, firstEdge, behind, movedOn}
 
 -- ---- rank, one further

@@ -6,20 +6,24 @@ use mathlib.Core.List.{List, []}
 use native.Mathlib.Omega.{arith}
 use lib.ListN.{length, getD}
 use Rattle.loes.specs.Bytes.{tabulate, front}
-use Rattle.loes.specs.Keys.{Key, members}
+use Rattle.loes.specs.Keys.{Key, members, smaller}
 use Rattle.loes.specs.Edges.{edges}
 use Rattle.loes.specs.Entry.{Entry, keysOf, count, edgesOf, edgeCount, Valid}
 use Rattle.loes.specs.Cursor.{pathOf}
 use Rattle.loes.proofs.Bytes.{length-tabulate, getD-tabulate}
 use Rattle.loes.proofs.Tree.{inhabited, prefixesBefore, before-smaller, prefix-whole, index-lt}
-use Rattle.query.specs.Paths.{Leading, keyOf, pathKey}
+use Rattle.query.specs.Paths.{keyOf, pathKey}
 use Rattle.query.proofs.BitLists.{set-below}
-use Rattle.query.proofs.Paths.{key-length, leading-less, lead-some, offsets-are}
+use Rattle.query.proofs.Paths.{Leading, key-length, leading-less, lead-some, offsets-are}
 use Rattle.query.proofs.Ascent.{front-by}
-use Rattle.cursor.specs.Moves.{turns, firstEdge, movedOn, TurnsAt, Moved, Movable, indexIn, hasPath}
+use Rattle.cursor.specs.Moves.{turns, firstEdge, movedOn, TurnsAt, Moved, Movable, hasPath}
 use Rattle.cursor.proofs.Moves.{path-prefix, moved-below, moved-leads, next-before, next-member}
 use Rattle.cursor.proofs.Ends.{last-member}
 use Rattle.cursor.proofs.Right.{right-leads}
+
+-- the index of the member whose path is in a list of offsets
+unfoldable pub indexIn : Entry → List ℕ → ℕ
+indexIn e os = smaller (pathKey os (e .width)) (keysOf e)
 
 first-room : (e : List Bool) (b c : ℕ) → firstEdge e c < b → 2 * c < b
 unfolding firstEdge

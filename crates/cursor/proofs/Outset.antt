@@ -14,10 +14,10 @@ use Rattle.loes.specs.Entry.{Entry, keysOf, count, edgesOf, edgeCount, Valid}
 use Rattle.loes.specs.Cursor.{pathOf}
 use Rattle.loes.proofs.Bytes.{length-tabulate, getD-tabulate}
 use Rattle.loes.proofs.Tree.{prefixesBefore, prefix-whole, members-at, index-lt}
-use Rattle.query.specs.Paths.{recordAt, Leading, keyOf}
+use Rattle.query.specs.Paths.{keyOf}
 use Rattle.query.proofs.BitLists.{up, set-below, rank-is}
 use Rattle.query.proofs.Levels.{some-key}
-use Rattle.query.proofs.Paths.{key-length, offsets-are}
+use Rattle.query.proofs.Paths.{recordAt, Leading, key-length, offsets-are}
 use Rattle.query.proofs.Ascent.{front-by}
 use Rattle.cursor.specs.Moves.{firstEdge}
 use Rattle.cursor.proofs.Moves.{path-prefix}

@@ -16,8 +16,8 @@ use Rattle.loes.proofs.Tests.{same-self, same-is}
 use Rattle.loes.proofs.Members.{inside-at}
 use Rattle.loes.proofs.Bytes.{getD-tabulate}
 use Rattle.loes.proofs.Tree.{inhabited, prefixesBefore, prefix-whole, members-at, index-lt}
-use Rattle.query.specs.Paths.{Leading, keyOf}
-use Rattle.query.proofs.Paths.{key-length, offsets-are, leading-ext, leading-less, ofKey, key-of, member-leads, lead-some}
+use Rattle.query.specs.Paths.{keyOf}
+use Rattle.query.proofs.Paths.{Leading, key-length, offsets-are, leading-ext, leading-less, ofKey, key-of, member-leads, lead-some}
 use Rattle.cursor.proofs.Moves.{path-prefix}
 
 -- the first n of a list, by place

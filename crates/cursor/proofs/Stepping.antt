@@ -24,9 +24,9 @@ use Rattle.query.proofs.Descent.{inhabited-none}
 use Rattle.query.proofs.Ascent.{path-size, key-back}
 use Rattle.cursor.specs.declared.State.{State}
 use Rattle.cursor.specs.Steps.{stateOf, at as place}
-use Rattle.cursor.specs.Moves.{TurnsAt, Moved, Movable, indexIn, hasPath}
+use Rattle.cursor.specs.Moves.{TurnsAt, Moved, Movable, hasPath}
 use Rattle.cursor.proofs.Right.{take-tabulate}
-use Rattle.cursor.proofs.Onward.{below-edges, next-none, next-some, movable, next-path}
+use Rattle.cursor.proofs.Onward.{indexIn, below-edges, next-none, next-some, movable, next-path}
 use Rattle.cursor.proofs.Outset.{first-some}
 
 pub positive : (n : ℕ) → (n ≡ 0 → ⊥) → 0 < n

@@ -6,10 +6,9 @@ use mathlib.Core.List.{List}
 use lib.ListN.{getD, length, take}
 use lib.Dec.{eqb, ltb}
 use Rattle.loes.specs.Bytes.{bit, odd, sameNumbers}
-use Rattle.loes.specs.Keys.{Key, any, smaller}
+use Rattle.loes.specs.Keys.{Key, any}
 use Rattle.loes.specs.Entry.{Entry, keysOf}
 use Rattle.loes.specs.Cursor.{pathOf}
-use Rattle.query.specs.Paths.{pathKey}
 
 -- an offset leads on from record r: it is one of the record's two, and set
 unfoldable pub leadsOn : List Bool → ℕ → ℕ → Bool
@@ -49,10 +48,6 @@ pub record Movable (b m t : ℕ) (os : List ℕ) : Type 0 where
   pub room : m ≤ length os
   pub small : getD os t 0 < b
   pub next : (j : ℕ) → t < j → j < m → 2 * (getD os j 0 / 2 + 1) < b
-
--- the index of the member whose path is in a list of offsets
-unfoldable pub indexIn : Entry → List ℕ → ℕ
-indexIn e os = smaller (pathKey os (e .width)) (keysOf e)
 
 -- whether some member's path is in the list
 unfoldable pub hasPath : Entry → List ℕ → Bool

@@ -9,22 +9,21 @@ use Rattle.loes.specs.Edges.{onesBefore, rank}
 use Rattle.loes.specs.Entry.{edgesOf, edgeCount}
 use Rattle.loes.specs.Refusals.{firstOf, test}
 use Rattle.loes.specs.Read.{entryIn, rejected, read}
-use Rattle.loes.specs.Model.{refused, tells, rankIs, refusal, refusedOr, tested, answers, opens, rankAt, belowTest}
+use Rattle.loes.specs.Model.{refused, tells, rankIs, refusal, refusedOr, tested, answers, opens, rankAt, belowTest, saying}
 use Rattle.loes.specs.Calls.{afterReading, reading, openCall, rankCall}
 use Rattle.loes.proofs.Tests.{lt-yes, lt-no}
 use Rattle.encoding.specs.declared.Encoding.{Encoding}
 use Rattle.encoding.specs.Opened.{Opens}
-use Rattle.encoding.specs.Answers.{answered}
 
-pub open-refused : (l : Bytes) (k : ℕ) → read l ≡ rejected k → answered (refused k) ≡ openCall l
+pub open-refused : (l : Bytes) (k : ℕ) → read l ≡ rejected k → saying (refused k) ≡ openCall l
 unfolding openCall reading afterReading refusal
 open-refused l k h = rw h
 
-pub open-told : (l : Bytes) (e : Encoding) → Opens l e → answered (tells (e .width) (e .count) (e .bits)) ≡ openCall l
+pub open-told : (l : Bytes) (e : Encoding) → Opens l e → saying (tells (e .width) (e .count) (e .bits)) ≡ openCall l
 unfolding openCall reading afterReading opens answers tested refusedOr firstOf
 open-told l e o = rw (o .reads, o .width, o .count, o .bits)
 
-pub rank-refused : (l : Bytes) (i k : ℕ) → read l ≡ rejected k → answered (refused k) ≡ rankCall l i
+pub rank-refused : (l : Bytes) (i k : ℕ) → read l ≡ rejected k → saying (refused k) ≡ rankCall l i
 unfolding rankCall reading afterReading refusal
 rank-refused l i k h = rw h
 
@@ -40,12 +39,12 @@ rank-step : (l : Bytes) (e : Encoding) (i : ℕ) → Opens l e → rankCall l i 
 unfolding rankCall reading afterReading
 rank-step l e i o = rw (o .reads)
 
-pub rank-out : (l : Bytes) (e : Encoding) (i : ℕ) → Opens l e → e .bits ≤ i → answered (refused 9) ≡ rankCall l i
+pub rank-out : (l : Bytes) (e : Encoding) (i : ℕ) → Opens l e → e .bits ≤ i → saying (refused 9) ≡ rankCall l i
 unfolding rankAt answers tested refusedOr firstOf refusal
 rank-out l e i o h = sym (rank-step l e i o ∙ rw (below-no i (edgeCount (entryIn l)) (omega (arith, o .bits))))
 
 -- document 01's rank counts its own offset
-pub rank-told : (l : Bytes) (e : Encoding) (i r : ℕ) → Opens l e → i < e .bits → r ≡ onesBefore (edgesOf (entryIn l)) (i + 1) → answered (rankIs r) ≡ rankCall l i
+pub rank-told : (l : Bytes) (e : Encoding) (i r : ℕ) → Opens l e → i < e .bits → r ≡ onesBefore (edgesOf (entryIn l)) (i + 1) → saying (rankIs r) ≡ rankCall l i
 unfolding rankAt answers tested refusedOr firstOf rank
 rank-told l e i r o h q =
     let z : r ≡ onesBefore (edgesOf (entryIn l)) (suc i) = q ∙ rw add-one in

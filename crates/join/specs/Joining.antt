@@ -7,14 +7,13 @@ use lib.ListN.{length, take}
 use lib.Dec.{eqb}
 use Rattle.loes.specs.Limits.{maxWidth, maxEdges}
 use Rattle.loes.specs.Bytes.{Bytes, started, packBits, bitsIn}
-use Rattle.loes.specs.Keys.{either, without}
-use Rattle.loes.specs.Entry.{Entry, edgesOf, withSet}
+use Rattle.loes.specs.Entry.{Entry, edgesOf}
 use Rattle.loes.specs.Refusals.{twoWidths}
 use Rattle.loes.specs.Held.{held}
 use Rattle.loes.specs.Model.{Outcome, refusal, joinTests, writes}
 use Rattle.loes.specs.Calls.{reading}
 use Rattle.encoding.specs.Opened.{Opens}
-use Rattle.merge.specs.Union.{Room}
+use Rattle.merge.specs.Union.{unionOf, differenceOf, Room}
 use Rattle.encoding.specs.declared.Checked.{Checked}
 use Rattle.encoding.specs.declared.Checked.the-variants as checked
 use Rattle.join.specs.declared.Join.{Join}
@@ -24,8 +23,8 @@ use Rattle.join.specs.declared.Pair.the-variants as pair
 
 -- the entry that is asked for
 abbrev pub joinOf : Join → Entry → Entry → Entry
-joinOf join.Union e f = withSet e (either (e .set) (f .set))
-joinOf join.Difference e f = withSet e (without (e .set) (f .set))
+joinOf join.Union = unionOf
+joinOf join.Difference = differenceOf
 
 -- first encoding, second encoding, 13, then 5 and 14
 unfoldable pub joinCall : (Entry → Entry → Entry) → Bytes → Bytes → Bytes → Outcome

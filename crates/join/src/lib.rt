@@ -48,6 +48,7 @@ fn pair_of(first: Checked, second: Checked) -> Pair
     }
 }
 
+// Both are checked, the first first.
 fn open_both(a: &[u8], b: &[u8], t: &[u16]) -> Pair
     requires { ⌜ Tallies (now t) ⌝ }
     ensures { λ r. ⌜ Both (now (a .entry)) (now (b .entry)) r ⌝ }
@@ -141,6 +142,7 @@ const QUEUE: usize = 262144;
 
 const EDGES: usize = 131072;
 
+// The rooms, cleared.
 fn small_queue() -> [u8; SMALL_QUEUE]
     ensures { λ r. ⌜ length r ≡ smallQueue ⌝ }
 {
@@ -165,6 +167,7 @@ fn large_edges() -> [u8; EDGES]
     [0; EDGES]
 }
 
+// For two small encodings.
 fn join_small(kind: Join, a: &[u8], b: &[u8], t: &[u16], out: &mut [u8]) -> Written
     requires { ⌜ (length (now a) ≤ small) × (length (now b) ≤ small) × Tallies (now t) ⌝ }
     ensures { λ r. ⌜ writtenOutcome r (now (out .exit)) ≡ joinCall (joinOf kind) (now (a .entry)) (now (b .entry)) (now (out .entry)) ⌝ }
@@ -174,6 +177,7 @@ fn join_small(kind: Join, a: &[u8], b: &[u8], t: &[u16], out: &mut [u8]) -> Writ
     join_with(kind, a, b, t, &mut q, &mut edges, out)
 }
 
+// For any two.
 fn join_large(kind: Join, a: &[u8], b: &[u8], t: &[u16], out: &mut [u8]) -> Written
     requires { ⌜ Tallies (now t) ⌝ }
     ensures { λ r. ⌜ writtenOutcome r (now (out .exit)) ≡ joinCall (joinOf kind) (now (a .entry)) (now (b .entry)) (now (out .entry)) ⌝ }
@@ -183,6 +187,7 @@ fn join_large(kind: Join, a: &[u8], b: &[u8], t: &[u16], out: &mut [u8]) -> Writ
     join_with(kind, a, b, t, &mut q, &mut edges, out)
 }
 
+// In the rooms that fit.
 fn join_any(kind: Join, a: &[u8], b: &[u8], out: &mut [u8]) -> Written
     ensures { λ r. ⌜ writtenOutcome r (now (out .exit)) ≡ joinCall (joinOf kind) (now (a .entry)) (now (b .entry)) (now (out .entry)) ⌝ }
 {

@@ -10,17 +10,14 @@ use Rattle.loes.specs.Keys.{Key, setOf}
 use Rattle.loes.specs.Edges.{lastOf, edgeOffsets, edgesBefore, ones, edgeIndex}
 use Rattle.loes.specs.Entry.{Entry, edgesOf, edgeCount}
 use Rattle.loes.specs.Encode.{blockOnes, subBlockOnes, encode}
-use Rattle.loes.specs.Model.{Answer, refused, wrote, wroteKey, tells, isAbsent, isNone, indexIs, rankIs, Outcome}
+use Rattle.loes.specs.Model.{Answer, refused, wrote, wroteKey, tells, isAbsent, isNone, indexIs, rankIs, Outcome, saying}
 use Rattle.loes.specs.Calls.{packCall, unionCall, differenceCall, openCall, containsCall, indexOfCall, keyAtCall, rankCall, lowerBoundCall}
 use Rattle.loes.specs.Cursor.{State, before, at, after, Cursor, Advanced, advanceCall}
 
 -- ---- Words of the statements
--- an outcome with one buffer, and one with none
+-- an outcome with one buffer
 abbrev pub writing : Answer → Bytes → Outcome
 writing a buf = record { answer = a; buffers = buf ∷ [] }
-
-abbrev pub saying : Answer → Outcome
-saying a = record { answer = a; buffers = [] }
 
 -- a buffer of n bytes before a call
 abbrev pub room : ℕ → Bytes

@@ -31,6 +31,10 @@ pub record Outcome : Type 0 where
   pub answer : Answer
   pub buffers : List Bytes
 
+-- an answer, with no buffer lent
+abbrev pub saying : Answer → Outcome
+saying a = record { answer = a; buffers = [] }
+
 -- a step of the model: its outcome, and the entries it adds
 pub record Step : Type 0 where
   pub outcome : Outcome

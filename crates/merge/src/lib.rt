@@ -141,8 +141,8 @@ fn merge_level(a: &[u8], b: &[u8], q: &mut [u8], out: &mut [u8], from: usize, st
     at
 }
 
-// 1 if there is any, else 0.
-fn present(n: usize) -> u8
+// 1 if a set of so many edges has a root, else 0.
+fn root_flag(n: usize) -> u8
     ensures { λ r. ⌜ (r ≡ bit (ltb 0 n)) × (r ≤ 1) ⌝ }
 {
     if n > 0 { 1 } else { 0 }
@@ -169,7 +169,7 @@ pub fn merge(
     requires { ⌜ Room ba bb (now q) (now out) ⌝ }
     ensures { λ r. ⌜ Merged (held m ba (now (a .entry))) (held m bb (now (b .entry))) (now (q .entry)) (now (out .entry)) (now (q .exit)) (now (out .exit)) (r .edges) (r .members) ⌝ }
 {
-    let c = present(ba) + present(bb) * 2;
+    let c = root_flag(ba) + root_flag(bb) * 2;
     let t = push(q, 0, c);
     let mut at = Marks {
         a: 0,

@@ -13,7 +13,11 @@ use Rattle.loes.specs.Bytes.{tabulate, bit}
 use Rattle.loes.specs.Keys.{Key, KeySet, any, sameKey, setOf, less}
 use Rattle.loes.proofs.Lists.{any-append}
 use Rattle.loes.proofs.Tree.{half, inhabited, prefixCount, hasPrefix, prefixesBefore, prefix-of, prefix-inhabited, count-one, false-if, count-none}
-use Rattle.pack.specs.Rising.{insert, commonPrefix, firstNew, setBelow, Rising}
+use Rattle.pack.specs.Rising.{commonPrefix, firstNew, setBelow, Rising}
+
+-- a set with one key more
+unfoldable pub insert : KeySet → Key → KeySet
+insert s k j = s j || sameKey j k
 
 -- ---- one key more, by its first bit
 pub half-in : (b : Bool) (s : KeySet) (k : Key) → half b (insert s (b ∷ k)) ≡ insert (half b s) k

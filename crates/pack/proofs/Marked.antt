@@ -15,8 +15,7 @@ use Rattle.loes.specs.Edges.{Record, recordBits, edgesBefore}
 use Rattle.loes.proofs.Lists.{bits-append, length-bits}
 use Rattle.loes.proofs.Tree.{half, inhabited, rootRecord, treeLevel, prefixCount, hasPrefix, prefixesBefore, before-lt, bit-le, prefix-of, prefix-start, prefix-whole, level-tree}
 use Rattle.loes.proofs.Navigation.{recordsBefore}
-use Rattle.pack.specs.Rising.{insert}
-use Rattle.pack.proofs.Grow.{half-in, half-ft, half-tf, inhabited-insert}
+use Rattle.pack.proofs.Grow.{insert, half-in, half-ft, half-tf, inhabited-insert}
 
 -- level d of s, where a bit is set if a key of t goes that way
 unfoldable pub marked : ℕ → ℕ → KeySet → KeySet → List Record

@@ -71,11 +71,11 @@ pub record Uncounted (m t n : ℕ) (l : Bytes) (counts : List ℕ) : Type 0 wher
   pub long : m ≤ length counts
   pub zero : (e : ℕ) → e < m → getD counts e 0 ≡ 0
 
--- a key is refused, or the records of each level are counted
+-- a key is refused, or all n pass and the records of each level are counted
 abbrev pub RecordsCounted : ℕ → ℕ → Bytes → List ℕ → Checked → Type 0
 RecordsCounted m n l counts (Refused k) = firstOf (testsBelow m l n) ≡ some k
 RecordsCounted m n l counts (Accepted b) =
-    (firstOf (testsBelow m l n) ≡ none) × ((e : ℕ) → e < m → getD counts e 0 ≡ prefixCount e m (setBelow (key m l) n))
+    (firstOf (testsBelow m l n) ≡ none) × ((e : ℕ) → e < m → getD counts e 0 ≡ prefixCount e m (setBelow (key m l) n)) × (b ≡ n)
 
 -- rising keys to be marked: each cursor is at its level's first record, the edge bytes are clear
 pub record Unmarked (m t n : ℕ) (l : Bytes) (cursors : List ℕ) (edges : Bytes) : Type 0 where

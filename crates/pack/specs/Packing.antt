@@ -23,9 +23,9 @@ pub record Made (m : ℕ) (l old new : Bytes) (b : ℕ) : Type 0 where
   pub count : b ≡ edgeCount (batchEntry m l)
   pub bytes : new ≡ front (packBits (edgesOf (batchEntry m l))) old
 
--- refused with the number of the first test that holds, or made
+-- refused with the number of the first test that holds, and the buffer as it was; or made
 abbrev pub BatchEdges : ℕ → Bytes → Bytes → Bytes → Checked → Type 0
-BatchEdges m l old new (Refused k) = firstOf (edgeTests m l) ≡ some k
+BatchEdges m l old new (Refused k) = (firstOf (edgeTests m l) ≡ some k) × (new ≡ old)
 BatchEdges m l old new (Accepted b) = Made m l old new b
 
 -- ---- On the way

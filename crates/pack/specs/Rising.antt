@@ -1,15 +1,11 @@
 -- Keys in rising order, and what one key more adds to their set.
 use mathlib.Core.Path.{_≡_}
 use Prim.Native.Nat.{ℕ, zero, suc, _<_}
-use mathlib.Core.Bool.{false, _||_, cond}
+use mathlib.Core.Bool.{false, cond}
 use mathlib.Core.List.{[], _∷_}
 use lib.ListN.{length}
 use Rattle.loes.specs.Bytes.{tabulate}
-use Rattle.loes.specs.Keys.{Key, KeySet, sameBit, sameKey, less, setOf}
-
--- a set with one key more
-unfoldable pub insert : KeySet → Key → KeySet
-insert s k j = s j || sameKey j k
+use Rattle.loes.specs.Keys.{Key, KeySet, sameBit, less, setOf}
 
 -- how many bits two keys agree in, from the first on
 unfoldable pub commonPrefix : Key → Key → ℕ

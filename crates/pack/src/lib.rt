@@ -291,6 +291,7 @@ fn batch_edges(m: usize, batch: &[u8], edges: &mut [u8]) -> Checked
 }
 
 // ---- The call
+// Room for the edges of any batch.
 fn edge_room() -> [u8; MAX_EDGE_BYTES]
     ensures { λ r. ⌜ length r ≡ maxEdges / 8 ⌝ }
 {

@@ -20,9 +20,9 @@ use Rattle.loes.proofs.Members.{At, at-place}
 use Rattle.loes.proofs.Cursors.{length-offsets}
 use Rattle.bits.specs.Tables.{select}
 use Rattle.loes.proofs.Seven.{ones-le}
-use Rattle.query.specs.Paths.{recordAt, Leading, keyOf, pathKey}
+use Rattle.query.specs.Paths.{keyOf, pathKey}
 use Rattle.query.proofs.BitLists.{up, ones-less, rank-is}
-use Rattle.query.proofs.Paths.{offsets-are, ofKey, key-of, member-leads}
+use Rattle.query.proofs.Paths.{recordAt, Leading, offsets-are, ofKey, key-of, member-leads}
 use Rattle.query.proofs.Select.{select-at}
 
 -- a list whose front is x

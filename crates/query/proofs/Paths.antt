@@ -14,7 +14,17 @@ use Rattle.loes.proofs.Bits.{bit-odd, odd-bit}
 use Rattle.loes.proofs.Bytes.{length-tabulate}
 use Rattle.loes.proofs.Tree.{inhabited, hasPrefix, bit-le, prefix-of}
 use Rattle.loes.proofs.Navigation.{recordIndex, nav-bit, nav-rank, edges-empty, record-nil}
-use Rattle.query.specs.Paths.{recordAt, Leading, keyOf}
+use Rattle.query.specs.Paths.{keyOf}
+
+-- the record that a path comes to on level d
+unfoldable pub recordAt : List Bool → (ℕ → ℕ) → ℕ → ℕ
+recordAt e g zero = 0
+recordAt e g (suc d) = rank e (g d)
+
+-- the first d offsets of a path lead, each set, from one record to the next
+abbrev pub Leading : List Bool → ℕ → (ℕ → ℕ) → Type 0
+Leading e zero g = Unit {0}
+Leading e (suc d) g = Leading e d g × ((g d / 2 ≡ recordAt e g d) × (getD e (g d) false ≡ true))
 
 -- ---- The key of a path
 pub key-length : (g : ℕ → ℕ) (d : ℕ) → length (keyOf g d) ≡ d

@@ -11,31 +11,30 @@ use Rattle.loes.specs.Keys.{smaller}
 use Rattle.loes.specs.Cursor.{pathOf}
 use Rattle.loes.specs.Entry.{Entry, Valid, keyBytes, keysOf, count}
 use Rattle.loes.specs.Refusals.{badKey, outOfRange, shortBuffer, test, firstOf}
-use Rattle.loes.specs.Model.{Answer, refused, wroteKey, indexIs, isPresent, isAbsent, isNone, refusal, refusedOr, tested, answers, keyIn, unusedSet, keyTest, belowTest, writesKey, keyAt, contains, indexOf, lowerBound}
+use Rattle.loes.specs.Model.{Answer, refused, wroteKey, indexIs, isPresent, isAbsent, isNone, refusal, refusedOr, tested, answers, keyIn, unusedSet, keyTest, belowTest, writesKey, keyAt, contains, indexOf, lowerBound, saying}
 use Rattle.loes.proofs.Tests.{lt-yes, lt-no, neither, not-false, yes-eq}
 use Rattle.query.specs.Descent.{Located}
 use Rattle.query.specs.Paths.{pathKey}
-use Rattle.query.specs.Answers.{says}
 use Rattle.query.proofs.Ascent.{key-back}
 
 module _ (e : Entry) (x : Bytes) (w : ℕ) (bad : Bool) (same : w ≡ e .width) (b : bad ≡ (not (eqb (length x) (keyBytes w)) || unusedSet w x)) where
-  refused-key : bad ≡ true → (a : Answer) → says (refused badKey) ≡ answers (keyTest e x ∷ []) a .outcome
+  refused-key : bad ≡ true → (a : Answer) → saying (refused badKey) ≡ answers (keyTest e x ∷ []) a .outcome
   unfolding answers tested refusedOr refusal firstOf keyTest test
   refused-key t a = rw (← same, ← b, t)
 
-  answered : bad ≡ false → (a : Answer) → says a ≡ answers (keyTest e x ∷ []) a .outcome
+  answered : bad ≡ false → (a : Answer) → saying a ≡ answers (keyTest e x ∷ []) a .outcome
   unfolding answers tested refusedOr firstOf keyTest test
   answered f a = rw (← same, ← b, f)
 
-  pub contains-refused : bad ≡ true → says (refused badKey) ≡ contains e x .outcome
+  pub contains-refused : bad ≡ true → saying (refused badKey) ≡ contains e x .outcome
   unfolding contains
   contains-refused t = refused-key t _
 
-  pub index-refused : bad ≡ true → says (refused badKey) ≡ indexOf e x .outcome
+  pub index-refused : bad ≡ true → saying (refused badKey) ≡ indexOf e x .outcome
   unfolding indexOf
   index-refused t = refused-key t _
 
-  pub bound-refused : bad ≡ true → says (refused badKey) ≡ lowerBound e x .outcome
+  pub bound-refused : bad ≡ true → saying (refused badKey) ≡ lowerBound e x .outcome
   unfolding lowerBound
   bound-refused t = refused-key t _
 
@@ -48,15 +47,15 @@ module _ (e : Entry) (x : Bytes) (w : ℕ) (bad : Bool) (same : w ≡ e .width) 
         omega (arith, yes-eq (length x) (keyBytes w) (not-false _ z))
 
     module _ (i : ℕ) (found : Bool) (at : Located e (bitsIn x w) i found) where
-      pub contains-is : says (cond found isPresent isAbsent) ≡ contains e x .outcome
+      pub contains-is : saying (cond found isPresent isAbsent) ≡ contains e x .outcome
       unfolding contains keyIn
       contains-is = rw (← (answered f (cond (e .set (bitsIn x (e .width))) isPresent isAbsent)), at .inside, same)
 
-      pub index-is : says (cond found (indexIs i) isAbsent) ≡ indexOf e x .outcome
+      pub index-is : saying (cond found (indexIs i) isAbsent) ≡ indexOf e x .outcome
       unfolding indexOf keyIn
       index-is = rw (← (answered f (cond (e .set (bitsIn x (e .width))) (indexIs (smaller (bitsIn x (e .width)) (keysOf e))) isAbsent)), at .inside, at .below, same)
 
-      pub bound-is : says (cond (eqb i (count e)) isNone (indexIs i)) ≡ lowerBound e x .outcome
+      pub bound-is : saying (cond (eqb i (count e)) isNone (indexIs i)) ≡ lowerBound e x .outcome
       unfolding lowerBound keyIn
       bound-is = rw (← (answered f (cond (eqb (smaller (bitsIn x (e .width)) (keysOf e)) (count e)) isNone (indexIs (smaller (bitsIn x (e .width)) (keysOf e))))), at .below, same)
 

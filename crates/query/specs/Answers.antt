@@ -1,7 +1,7 @@
 -- What each answer says in the specification's words, with the lent buffers.
 use mathlib.Core.List.{[], _∷_}
 use Rattle.loes.specs.Bytes.{Bytes}
-use Rattle.loes.specs.Model.{Answer, Outcome, refused, wroteKey, isPresent, isAbsent, isNone, indexIs}
+use Rattle.loes.specs.Model.{Answer, Outcome, refused, wroteKey, isPresent, isAbsent, isNone, indexIs, saying}
 use Rattle.query.specs.declared.Membership.{Membership}
 use Rattle.query.specs.declared.Membership.the-variants as membership
 use Rattle.query.specs.declared.Lookup.{Lookup}
@@ -11,23 +11,20 @@ use Rattle.query.specs.declared.Bound.the-variants as bound
 use Rattle.query.specs.declared.Written.{Written}
 use Rattle.query.specs.declared.Written.the-variants as written
 
-abbrev pub says : Answer → Outcome
-says a = record { answer = a; buffers = [] }
-
 abbrev pub membershipOutcome : Membership → Outcome
-membershipOutcome (membership.Refused k) = says (refused k)
-membershipOutcome membership.Present = says isPresent
-membershipOutcome membership.Absent = says isAbsent
+membershipOutcome (membership.Refused k) = saying (refused k)
+membershipOutcome membership.Present = saying isPresent
+membershipOutcome membership.Absent = saying isAbsent
 
 abbrev pub lookupOutcome : Lookup → Outcome
-lookupOutcome (lookup.Refused k) = says (refused k)
-lookupOutcome (lookup.Index i) = says (indexIs (i .0))
-lookupOutcome lookup.Absent = says isAbsent
+lookupOutcome (lookup.Refused k) = saying (refused k)
+lookupOutcome (lookup.Index i) = saying (indexIs (i .0))
+lookupOutcome lookup.Absent = saying isAbsent
 
 abbrev pub boundOutcome : Bound → Outcome
-boundOutcome (bound.Refused k) = says (refused k)
-boundOutcome (bound.Index i) = says (indexIs (i .0))
-boundOutcome bound.End = says isNone
+boundOutcome (bound.Refused k) = saying (refused k)
+boundOutcome (bound.Index i) = saying (indexIs (i .0))
+boundOutcome bound.End = saying isNone
 
 abbrev pub writtenAnswer : Written → Answer
 writtenAnswer (written.Refused k) = refused k

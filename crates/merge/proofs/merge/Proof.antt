@@ -37,11 +37,11 @@ few l =
     let s = start (l .before) in
     end-le (held-of (s .pre .0)) (held-of (s .pre .1 .0)) (l .loop .inv .0) (l .loop .inv .1)
 
-present-requires : tie.Need-present-requires Inv-loop μ-loop
-present-requires c κs = search needs
+root-flag-requires : tie.Need-root-flag-requires Inv-loop μ-loop
+root-flag-requires c κs = search needs
 
-present-requires-2 : tie.Need-present-requires-2 Inv-loop μ-loop
-present-requires-2 c κs = search needs
+root-flag-requires-2 : tie.Need-root-flag-requires-2 Inv-loop μ-loop
+root-flag-requires-2 c κs = search needs
 
 mul-c : tie.Need-mul-c Inv-loop μ-loop
 mul-c c = search needs
@@ -57,7 +57,7 @@ loop-holds c =
     let s = start c in
     let p = c .before .before in
     let x = p .before .before in
-    (done-none (x .before .present .ensures .0 ∙ some (s .pre .0)) (x .present2 .ensures .0 ∙ some (s .pre .1 .0)) (p .push .ensures), omega arith)
+    (done-none (x .before .root-flag .ensures .0 ∙ some (s .pre .0)) (x .root-flag2 .ensures .0 ∙ some (s .pre .1 .0)) (p .push .ensures), omega arith)
 
 merge-level-requires : tie.Need-merge-level-requires Inv-loop μ-loop
 merge-level-requires c κs =
@@ -121,8 +121,8 @@ merge-spec =
     (tie.spec
     Inv-loop
     μ-loop
-    present-requires
-    present-requires-2
+    root-flag-requires
+    root-flag-requires-2
     mul-c
     add-c
     push-requires

@@ -1,5 +1,5 @@
 use borrow.Author.Needs.{needs}
-use mathlib.Core.Path.{sym, subst, _∙_}
+use mathlib.Core.Path.{sym, subst, _∙_, refl}
 use Prim.Native.Nat.{ℕ, _+_, _/_, _≤_}
 use mathlib.Core.List.{List}
 use native.Mathlib.Omega.{arith}
@@ -53,7 +53,7 @@ returns c =
     let s = p .before .before .before .before .before in
     let l = now (s .args .batch) in
     subst (BatchEdges (s .args .m) l (now (s .args .edges)) (now (s .args .edges))) (sym (c .enum-told .given .1))
-    (subst (Planned (s .args .m) l (p .plan .last .1 .1 .0)) (c .enum-told .given .1) (p .plan .ensures))
+    (subst (Planned (s .args .m) l (p .plan .last .1 .1 .0)) (c .enum-told .given .1) (p .plan .ensures), refl)
 
 add-len : tie.Need-add-len
 add-len c = record { fits = omega (arith, few c) }

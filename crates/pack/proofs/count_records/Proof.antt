@@ -112,7 +112,7 @@ returns-2 : tie.Need-returns-2 Inv-loop μ-loop
 returns-2 c =
     let h = c .before in
     let z : h .loop .i ≡ h .before .before .before .args .n = omega (arith, c .loop-test .left, h .loop .inv .0) in
-    (rw z at (h .loop .inv .2), λ e l. omega (arith, rw z at (h .loop .inv .3 e l)))
+    (rw z at (h .loop .inv .2), λ e l. omega (arith, rw z at (h .loop .inv .3 e l)), refl)
 
 pub count-records-spec : {M : Type 1} → statement M
 count-records-spec =

@@ -70,7 +70,7 @@ returns c =
     let m = c .before .before .before .before .before in
     let s = m .before .before .before .before .before .before in
     ap (λ x. x .outcome) (sym (pack-refused (s .args .m) (now (s .args .batch)) (now (s .args .out)) (c .before .made .given .0 .0)
-    (subst (BatchEdges (s .args .m) (now (s .args .batch)) (now (s .args .edges)) (m .batch-edges .last .1 .1 .0)) (c .before .made .given .1) (m .batch-edges .ensures))))
+    (subst (BatchEdges (s .args .m) (now (s .args .batch)) (now (s .args .edges)) (m .batch-edges .last .1 .1 .0)) (c .before .made .given .1) (m .batch-edges .ensures) .0)))
 
 same-length-2 : tie.Need-same-length-2
 same-length-2 c = search needs
