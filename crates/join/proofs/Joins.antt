@@ -12,7 +12,7 @@ use Rattle.loes.specs.Bytes.{Bytes, started, packBits, bitsIn}
 use Rattle.loes.specs.Keys.{Key, either, without}
 use Rattle.loes.specs.Entry.{Entry, edgesOf, edgeCount, withSet, Valid}
 use Rattle.loes.specs.Refusals.{twoWidths, test, firstOf}
-use Rattle.loes.specs.Read.{rejected, opened, read, entryIn}
+use Rattle.loes.specs.Read.{rejected, opened, read, entryIn, start5, start6}
 use Rattle.loes.specs.Held.{held, Holds}
 use Rattle.loes.specs.Model.{Outcome, refusal, joinTests, writes}
 use Rattle.loes.specs.Calls.{reading, afterReading}
@@ -26,9 +26,10 @@ use Rattle.encoding.proofs.Opened.{opens-room, opens-valid, opens-held, opens-h
 use Rattle.encoding.specs.declared.Encoding.{Encoding}
 use Rattle.encoding.specs.declared.Checked.{Checked}
 use Rattle.encoding.specs.declared.Checked.the-variants as checked
-use Rattle.merge.specs.Records.{Written}
+use Rattle.records.specs.Records.{Written}
+use Rattle.records.specs.Numbers.{overread}
 use Rattle.build.specs.Writing.{Sealed}
-use Rattle.merge.proofs.Sealing.{written-bits, written-room}
+use Rattle.records.proofs.Sealing.{written-bits, written-room}
 use Rattle.join.specs.declared.Join.{Join}
 use Rattle.join.specs.declared.Join.the-variants as join
 use Rattle.join.specs.declared.Pair.the-variants as pair
@@ -130,6 +131,11 @@ opens-short l e p = omega (arith, opens-room l e p .edges)
 
 tail-is : (l : Bytes) (n : ℕ) → take (length l - n) (drop n l) ≡ drop n l
 tail-is l n = take-all (length l - n) (drop n l) (omega (arith, length-drop n l))
+
+-- behind the edges stand two more fields, so a window may read on
+pub opens-over : (l : Bytes) (e : Encoding) → Opens l e → e .bits / 2 + overread ≤ 4 * length (take (length l - e .edges) (drop (e .edges) l))
+unfolding start5 start6 started
+opens-over l e p = rw (tail-is l (e .edges), length-drop (e .edges) l) (omega (arith, opens-room l e p .sub-blocks, p .edges, p .sub-blocks, p .bits))
 
 module _ (kind : Join) (a b : Bytes) (e f : Encoding) (p : Opens a e) (q : Opens b f) (w : e .width ≡ f .width) where
   abbrev first : Bytes

@@ -1,6 +1,6 @@
 -- Union and difference as one call, and what is known on its way.
 use mathlib.Core.Path.{_≡_}
-use Prim.Native.Nat.{ℕ, _*_, _<_, _≤_}
+use Prim.Native.Nat.{ℕ, _+_, _*_, _<_, _≤_}
 use mathlib.Core.Bool.{cond}
 use mathlib.Core.List.{[], _∷_}
 use lib.ListN.{length, take}
@@ -13,7 +13,8 @@ use Rattle.loes.specs.Held.{held}
 use Rattle.loes.specs.Model.{Outcome, refusal, joinTests, writes}
 use Rattle.loes.specs.Calls.{reading}
 use Rattle.encoding.specs.Opened.{Opens}
-use Rattle.merge.specs.Union.{unionOf, differenceOf, Room}
+use Rattle.merge.specs.Union.{unionOf, Room}
+use Rattle.restrict.specs.Restriction.{differenceOf}
 use Rattle.encoding.specs.declared.Checked.{Checked}
 use Rattle.encoding.specs.declared.Checked.the-variants as checked
 use Rattle.join.specs.declared.Join.{Join}
@@ -53,14 +54,20 @@ pub record Joined (m k : ℕ) (l : Bytes) : Type 0 where
 abbrev pub small : ℕ
 small = 2048
 
-abbrev pub smallQueue : ℕ
-smallQueue = 8256
+abbrev pub middle : ℕ
+middle = 16384
 
-abbrev pub smallEdges : ℕ
-smallEdges = 4160
+abbrev pub spare : ℕ
+spare = 64
+
+abbrev pub queueFor : ℕ → ℕ
+queueFor n = 4 * n + spare
+
+abbrev pub edgesFor : ℕ → ℕ
+edgesFor n = 2 * n + spare
 
 abbrev pub largeQueue : ℕ
-largeQueue = 262144
+largeQueue = 262152
 
 abbrev pub largeEdges : ℕ
 largeEdges = 131072

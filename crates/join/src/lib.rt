@@ -9,9 +9,11 @@ ghost use Rattle.loes.specs.Model.{writes};
 ghost use Rattle.loes.specs.Calls.{unionCall, differenceCall};
 ghost use Rattle.bits.specs.Tables.{Tallies};
 ghost use Rattle.build.specs.Writing.{writtenOutcome};
-ghost use Rattle.merge.specs.Records.{Written as Collected};
+ghost use Rattle.records.specs.Records.{Written as Collected};
+ghost use Rattle.records.specs.Numbers.{overread};
+ghost use Rattle.records.specs.Tables.{TablesLent};
 ghost use Rattle.merge.specs.Union.{Room};
-ghost use Rattle.join.specs.Joining.{pairOf, Both, joinOf, Joined, small, smallQueue, smallEdges, largeQueue, largeEdges, Rooms, joinCall};
+ghost use Rattle.join.specs.Joining.{pairOf, Both, joinOf, Joined, small, middle, queueFor, edgesFor, largeQueue, largeEdges, Rooms, joinCall};
 use build::Written;
 use encoding::Checked;
 use encoding::Encoding;
@@ -58,7 +60,39 @@ fn open_both(a: &[u8], b: &[u8], t: &[u16]) -> Pair
     pair_of(first, second)
 }
 
-// The edges of the union or the difference of the sets that two edge sequences hold.
+// The edges of the union or the difference of the sets that two edge sequences hold, with tables lent, or none.
+fn edges_with(
+    kind: Join,
+    m: usize,
+    a: &[u8],
+    ba: usize,
+    b: &[u8],
+    bb: usize,
+    spreads: &[u8],
+    parts: &[u32],
+    runs: &[u16],
+    q: &mut [u8],
+    out: &mut [u8],
+) -> usize
+    requires { ⌜ Holds m ba (now a) × (ba / 2 + overread ≤ 4 * length (now a)) ⌝ }
+    requires { ⌜ Holds m bb (now b) × (bb / 2 + overread ≤ 4 * length (now b)) ⌝ }
+    requires { ⌜ TablesLent (now spreads) (now parts) (now runs) ⌝ }
+    requires { ⌜ Room ba bb (now q) (now out) ⌝ }
+    ensures { λ k. ⌜ Collected (edgesOf (joinOf kind (held m ba (now (a .entry))) (held m bb (now (b .entry))))) (now (out .entry)) (now (out .exit)) k ⌝ }
+{
+    match kind {
+        Join::Union => {
+            let u = merge::merge(m, a, ba, b, bb, spreads, parts, runs, q, out);
+            u.edges
+        }
+        Join::Difference => restrict::subtract(m, a, ba, b, bb, spreads, parts, runs, q, out),
+    }
+}
+
+// From this many edge bits on, filling the tables takes less time than they save.
+const TABLES_FROM: usize = 512;
+
+// The same, with tables where they pay.
 fn joined_edges(
     kind: Join,
     m: usize,
@@ -69,18 +103,21 @@ fn joined_edges(
     q: &mut [u8],
     out: &mut [u8],
 ) -> usize
-    requires { ⌜ Holds m ba (now a) ⌝ }
-    requires { ⌜ Holds m bb (now b) ⌝ }
+    requires { ⌜ Holds m ba (now a) × (ba / 2 + overread ≤ 4 * length (now a)) ⌝ }
+    requires { ⌜ Holds m bb (now b) × (bb / 2 + overread ≤ 4 * length (now b)) ⌝ }
     requires { ⌜ Room ba bb (now q) (now out) ⌝ }
     ensures { λ k. ⌜ Collected (edgesOf (joinOf kind (held m ba (now (a .entry))) (held m bb (now (b .entry))))) (now (out .entry)) (now (out .exit)) k ⌝ }
 {
-    match kind {
-        Join::Union => {
-            let u = merge::merge(m, a, ba, b, bb, q, out);
-            u.edges
-        }
-        Join::Difference => merge::subtract(m, a, ba, b, bb, q, out),
+    if ba + bb < TABLES_FROM {
+        return edges_with(kind, m, a, ba, b, bb, &[], &[], &[], q, out);
     }
+    let mut spreads = [0; join_tables::SPREAD_ENTRIES];
+    let mut parts = [0; join_tables::PART_ENTRIES];
+    let mut runs = [0; join_tables::RUN_ENTRIES];
+    join_tables::fill_spread(&mut spreads);
+    join_tables::fill_parts(&mut parts);
+    join_tables::fill_runs(&mut runs);
+    edges_with(kind, m, a, ba, b, bb, &spreads, &parts, &runs, q, out)
 }
 
 // Writes the entry that k edge bits hold: 5, then 14.
@@ -129,30 +166,51 @@ fn join_with(
     }
 }
 
-// ---- Rooms: for the flags that merging pushes, and for the merged edges
-// Up to this length encodings are joined in small rooms, which are quicker to clear.
+// ---- Rooms: for the flags that merging pushes, two bits for each edge of both, and for the merged edges. Smaller ones are quicker to clear.
+// Bytes behind them, of which a run put at the end takes at most five.
+const SPARE: usize = 64;
+
+// For two encodings of at most this many bytes each.
 const SMALL: usize = 2048;
 
-const SMALL_QUEUE: usize = 4 * SMALL + 64;
+const SMALL_QUEUE: usize = 4 * SMALL + SPARE;
 
-const SMALL_EDGES: usize = 2 * SMALL + 64;
+const SMALL_EDGES: usize = 2 * SMALL + SPARE;
 
-// For any two encodings: as many flags as both have edges and one more, four to a byte; and as many edges.
-const QUEUE: usize = 262144;
+const MIDDLE: usize = 16384;
 
+const MIDDLE_QUEUE: usize = 4 * MIDDLE + SPARE;
+
+const MIDDLE_EDGES: usize = 2 * MIDDLE + SPARE;
+
+// For any two: as many edges as both can have, and as many flags.
 const EDGES: usize = 131072;
+
+const QUEUE: usize = 2 * EDGES + 8;
 
 // The rooms, cleared.
 fn small_queue() -> [u8; SMALL_QUEUE]
-    ensures { λ r. ⌜ length r ≡ smallQueue ⌝ }
+    ensures { λ r. ⌜ length r ≡ queueFor small ⌝ }
 {
     [0; SMALL_QUEUE]
 }
 
 fn small_edges() -> [u8; SMALL_EDGES]
-    ensures { λ r. ⌜ length r ≡ smallEdges ⌝ }
+    ensures { λ r. ⌜ length r ≡ edgesFor small ⌝ }
 {
     [0; SMALL_EDGES]
+}
+
+fn middle_queue() -> [u8; MIDDLE_QUEUE]
+    ensures { λ r. ⌜ length r ≡ queueFor middle ⌝ }
+{
+    [0; MIDDLE_QUEUE]
+}
+
+fn middle_edges() -> [u8; MIDDLE_EDGES]
+    ensures { λ r. ⌜ length r ≡ edgesFor middle ⌝ }
+{
+    [0; MIDDLE_EDGES]
 }
 
 fn large_queue() -> [u8; QUEUE]
@@ -177,6 +235,16 @@ fn join_small(kind: Join, a: &[u8], b: &[u8], t: &[u16], out: &mut [u8]) -> Writ
     join_with(kind, a, b, t, &mut q, &mut edges, out)
 }
 
+// For two of middle size.
+fn join_middle(kind: Join, a: &[u8], b: &[u8], t: &[u16], out: &mut [u8]) -> Written
+    requires { ⌜ (length (now a) ≤ middle) × (length (now b) ≤ middle) × Tallies (now t) ⌝ }
+    ensures { λ r. ⌜ writtenOutcome r (now (out .exit)) ≡ joinCall (joinOf kind) (now (a .entry)) (now (b .entry)) (now (out .entry)) ⌝ }
+{
+    let mut q = middle_queue();
+    let mut edges = middle_edges();
+    join_with(kind, a, b, t, &mut q, &mut edges, out)
+}
+
 // For any two.
 fn join_large(kind: Join, a: &[u8], b: &[u8], t: &[u16], out: &mut [u8]) -> Written
     requires { ⌜ Tallies (now t) ⌝ }
@@ -187,18 +255,26 @@ fn join_large(kind: Join, a: &[u8], b: &[u8], t: &[u16], out: &mut [u8]) -> Writ
     join_with(kind, a, b, t, &mut q, &mut edges, out)
 }
 
+// The longer of two lengths.
+fn longer(x: usize, y: usize) -> usize
+    ensures { λ r. ⌜ (x ≤ r) × (y ≤ r) ⌝ }
+{
+    if x < y { y } else { x }
+}
+
 // In the rooms that fit.
 fn join_any(kind: Join, a: &[u8], b: &[u8], out: &mut [u8]) -> Written
     ensures { λ r. ⌜ writtenOutcome r (now (out .exit)) ≡ joinCall (joinOf kind) (now (a .entry)) (now (b .entry)) (now (out .entry)) ⌝ }
 {
     let t = bits::tallies();
-    if a.len() > SMALL {
-        return join_large(kind, a, b, &t, out);
+    let n = longer(a.len(), b.len());
+    if n <= SMALL {
+        return join_small(kind, a, b, &t, out);
     }
-    if b.len() > SMALL {
-        return join_large(kind, a, b, &t, out);
+    if n <= MIDDLE {
+        return join_middle(kind, a, b, &t, out);
     }
-    join_small(kind, a, b, &t, out)
+    join_large(kind, a, b, &t, out)
 }
 
 // ---- The calls

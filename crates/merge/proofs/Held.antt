@@ -19,9 +19,9 @@ use Rattle.loes.proofs.Tree.{half, inhabited, treeLevel, tree-empty, length-roo
 use Rattle.loes.proofs.Bytes.{length-tabulate}
 use Rattle.loes.proofs.WellFormed.{recordsIn, records-bits}
 use Rattle.loes.proofs.Bits.{tabulate-add}
-use Rattle.merge.specs.Records.{recordAt, recordsTo}
+use Rattle.records.specs.Records.{recordAt, recordsTo}
 use Rattle.merge.specs.Union.{recordsFrom}
-use Rattle.merge.proofs.Codes.{bits-recordsTo, length-records}
+use Rattle.records.proofs.Codes.{bits-recordsTo, length-records}
 use Rattle.merge.proofs.Merging.{treeLevels, levels-split, levels-more, edges-levels}
 
 -- the set of the entry that edge bytes hold

@@ -1,5 +1,5 @@
--- A level merged, record by record.
-use mathlib.Core.Path.{_≡_, refl, sym, ap, _∙_}
+-- A level merged: single records and blocks, one behind the other.
+use mathlib.Core.Path.{_≡_, refl, sym, ap, ap₂, _∙_}
 use Prim.Native.Nat.{ℕ, suc, _+_, _-_, _*_, _≤_, _<_}
 use mathlib.Core.Bool.{Bool, true, false}
 use mathlib.Core.List.{List, [], _∷_, _++_, append-nil, append-assoc}
@@ -12,24 +12,24 @@ use Rattle.loes.specs.Bytes.{Bytes, bit, tabulate}
 use Rattle.loes.specs.Edges.{Record}
 use Rattle.loes.proofs.Tree.{length-snoc}
 use Rattle.loes.proofs.Bytes.{length-tabulate, getD-tabulate}
-use Rattle.merge.specs.Records.{Flag, emptyRecord, recordAt, recordsTo, flagAt, flagsTo, flagsFrom}
-use Rattle.merge.specs.Union.{flagIf, eitherRecord, childFlags, nextOf, restOf, merged, pushed, recordsFrom, takenRecord, firstCount, secondCount, RecordMerged, LevelMerged, LevelRoom}
+use Rattle.loes.proofs.Bits.{tabulate-add, tabulate-ext}
+use Rattle.records.specs.Records.{Flag, emptyRecord, recordAt, recordsTo, flagAt, flagsTo, flagsFrom, flagIf, nextOf, restOf, firstCount, secondCount, recordsAt}
+use Rattle.records.specs.Numbers.{overread}
+use Rattle.merge.specs.Union.{eitherRecord, childFlags, merged, pushed, recordsFrom, takenRecord, RecordMerged, LevelMerged, LevelRoom, BlockMerged}
+use Rattle.merge.proofs.Spreading.{merged-append, pushed-append, merged-at, pushed-at}
 use Rattle.merge.proofs.Merging.{first-append, second-append}
 
 -- ---- One flag more, at the end
 merged-snoc : (fs : List Flag) (f : Flag) (xs ys : List Record)
     → merged (fs ++ f ∷ []) xs ys ≡ merged fs xs ys ++ eitherRecord (nextOf (f .inFirst) (drop (firstCount fs) xs)) (nextOf (f .inSecond) (drop (secondCount fs) ys)) ∷ []
-unfolding merged restOf firstCount secondCount
-merged-snoc [] f xs ys = refl
-merged-snoc (g ∷ fs) f xs ys =
-    rw (merged-snoc fs f (drop (bit (g .inFirst)) xs) (drop (bit (g .inSecond)) ys), drop-drop (firstCount fs) (bit (g .inFirst)) xs, drop-drop (secondCount fs) (bit (g .inSecond)) ys)
+unfolding merged
+merged-snoc fs f xs ys = merged-append fs (f ∷ []) xs ys
 
 pushed-snoc : (fs : List Flag) (f : Flag) (xs ys : List Record)
     → pushed (fs ++ f ∷ []) xs ys ≡ pushed fs xs ys ++ childFlags (nextOf (f .inFirst) (drop (firstCount fs) xs)) (nextOf (f .inSecond) (drop (secondCount fs) ys))
-unfolding pushed restOf firstCount secondCount
-pushed-snoc [] f xs ys = append-nil (childFlags (nextOf (f .inFirst) xs) (nextOf (f .inSecond) ys))
-pushed-snoc (g ∷ fs) f xs ys =
-    rw (pushed-snoc fs f (drop (bit (g .inFirst)) xs) (drop (bit (g .inSecond)) ys), drop-drop (firstCount fs) (bit (g .inFirst)) xs, drop-drop (secondCount fs) (bit (g .inSecond)) ys, append-assoc)
+unfolding pushed
+pushed-snoc fs f xs ys =
+    pushed-append fs (f ∷ []) xs ys ∙ ap (λ l. pushed fs xs ys ++ l) (append-nil (childFlags (nextOf (f .inFirst) (drop (firstCount fs) xs)) (nextOf (f .inSecond) (drop (secondCount fs) ys))))
 
 first-snoc : (fs : List Flag) (f : Flag) → firstCount (fs ++ f ∷ []) ≡ firstCount fs + bit (f .inFirst)
 first-snoc fs f = first-append fs (f ∷ []) ∙ unfold firstCount in omega arith
@@ -78,6 +78,16 @@ taken-next true l k n h =
     rw (drop-drop n k (tabulate (recordAt l) (4 * length l)), drop-cons (tabulate (recordAt l) (4 * length l)) (k + n) emptyRecord j)
     (getD-tabulate (recordAt l) (4 * length l) (k + n) emptyRecord i)
 
+from-add : (l : Bytes) (k n : ℕ) → recordsFrom l (k + n) ≡ drop n (recordsFrom l k)
+unfolding recordsFrom
+from-add l k n = sym (drop-drop n k (recordsTo l (4 * length l)))
+
+flags-more : (q : Bytes) (from j n : ℕ) → flagsFrom q from (j + n) ≡ flagsFrom q from j ++ flagsFrom q (from + j) n
+unfolding flagsFrom
+flags-more q from j n =
+    tabulate-add (λ k. flagAt q (from + k)) j n
+    ∙ ap (λ l. tabulate (λ k. flagAt q (from + k)) j ++ l) (tabulate-ext (λ k. flagAt q (from + (j + k))) (λ k. flagAt q (from + j + k)) n (λ k h. let z : from + (j + k) ≡ from + j + k = omega arith in rw z))
+
 module _ {a b q o : Bytes} {from ka kb tail : ℕ} where
   pub level-none : LevelMerged a b q o from ka kb tail (flagsFrom q from 0) q o ka kb tail
   unfolding flagsFrom tabulate firstCount secondCount pushed merged
@@ -101,17 +111,19 @@ module _ {a b q o : Bytes} {from ka kb tail : ℕ} where
         ∙ length-append (tabulate (flagAt q) tail) (pushed (flagsFrom q from j) (recordsFrom a ka) (recordsFrom b kb))
         ∙ ap (λ x. x + length (pushed (flagsFrom q from j) (recordsFrom a ka) (recordsFrom b kb))) (length-tabulate (flagAt q) tail)
 
-    -- the flag is still there
-    flag-same : flagAt p (from + j) ≡ flagAt q (from + j)
+    -- the flags are still there
+    flag-kept : (i : ℕ) → i < tail → flagAt p i ≡ flagAt q i
     unfolding flagsTo
-    flag-same =
+    flag-kept i k =
         let d : Flag = record { inFirst = false; inSecond = false } in
-        let i : from + j < end = omega (arith, end-is) in
-        let k : from + j < tail = omega arith in
-        let l : from + j < length (tabulate (flagAt q) tail) = rw (length-tabulate (flagAt q) tail) k in
-        sym (getD-tabulate (flagAt p) end (from + j) d i) ∙ ap (λ x. getD x (from + j) d) (v .queue)
-        ∙ List·getD-append (tabulate (flagAt q) tail) (pushed (flagsFrom q from j) (recordsFrom a ka) (recordsFrom b kb)) d (from + j) l
-        ∙ getD-tabulate (flagAt q) tail (from + j) d k
+        let h : i < end = omega (arith, end-is) in
+        let l : i < length (tabulate (flagAt q) tail) = rw (length-tabulate (flagAt q) tail) k in
+        sym (getD-tabulate (flagAt p) end i d h) ∙ ap (λ x. getD x i d) (v .queue)
+        ∙ List·getD-append (tabulate (flagAt q) tail) (pushed (flagsFrom q from j) (recordsFrom a ka) (recordsFrom b kb)) d i l
+        ∙ getD-tabulate (flagAt q) tail i d k
+
+    flag-same : flagAt p (from + j) ≡ flagAt q (from + j)
+    flag-same = flag-kept (from + j) (omega arith)
 
     -- one record more in each that has one
     next : (la + bit (flagAt q (from + j) .inFirst) ≤ ka + firstCount (flagsFrom q from (tail - from)))
@@ -122,9 +134,10 @@ module _ {a b q o : Bytes} {from ka kb tail : ℕ} where
         let e = counts-mono f (suc j) (tail - from) more in
         (omega (arith, v .takena, first-snoc (tabulate f j) (f j), e .0), omega (arith, v .takenb, second-snoc (tabulate f j) (f j), e .1))
 
-    pub end-le : end + 2 ≤ 4 * length q
-    end-le =
-        omega (arith, end-is, length-pushed (flagsFrom q from j) (recordsFrom a ka) (recordsFrom b kb), v .takena, v .takenb, next .0, next .1, room .queue)
+    -- there is more behind the next record of each than a window reads, and behind the queue than a run takes
+    pub over : (la + overread ≤ 4 * length a) × (lb + overread ≤ 4 * length b) × (end + overread ≤ 4 * length q)
+    over =
+        (omega (arith, next .0, room .first), omega (arith, next .1, room .second), omega (arith, end-is, length-pushed (flagsFrom q from j) (recordsFrom a ka) (recordsFrom b kb), v .takena, v .takenb, next .0, next .1, room .queue))
 
     pub taken-le : la + lb ≤ maxEdges
     taken-le = omega (arith, next .0, next .1, room .limit)
@@ -167,6 +180,37 @@ module _ {a b q o : Bytes} {from ka kb tail : ℕ} where
               let w : from + length fs ≡ from + j = omega arith in
               let y : recordsTo u (from + j) ≡ recordsTo o from ++ merged fs (recordsFrom a ka) (recordsFrom b kb) = rw w at (v .out) in
               rw z (t .out ∙ rw (xa, xb, y, merged-snoc fs f, append-assoc));
+          qsize = t .qsize ∙ v .qsize;
+          osize = t .osize ∙ v .osize;
+        }
+
+    -- eight records more
+    pub level-block : {p' u' : Bytes} {la' lb' end' : ℕ} (i : ℕ) → 4 * i ≡ from + j → j + 8 ≤ tail - from
+        → BlockMerged a b p u i la lb end p' u' la' lb' end' → LevelMerged a b q o from ka kb tail (flagsFrom q from (j + 8)) p' u' la' lb' end'
+    level-block {u' = u'} i at eight t =
+        let fs : List Flag = flagsFrom q from j in
+        let gs : List Flag = flagsFrom q (from + j) 8 in
+        let eg : flagsFrom p (4 * i) 8 ≡ gs = rw at (unfold flagsFrom in tabulate-ext (λ k. flagAt p (from + j + k)) (λ k. flagAt q (from + j + k)) 8 (λ k h. flag-kept (from + j + k) (omega arith))) in
+        let ef : flagsFrom q from (j + 8) ≡ fs ++ gs = flags-more q from j 8 in
+        let lf : length fs ≡ j = unfold flagsFrom in length-tabulate (λ k. flagAt q (from + k)) j in
+        let lg : length gs ≡ 8 = unfold flagsFrom in length-tabulate (λ k. flagAt q (from + j + k)) 8 in
+        let ea : la ≡ ka + firstCount fs = v .takena in
+        let eb : lb ≡ kb + secondCount fs = v .takenb in
+        let ra : recordsFrom a la ≡ drop (firstCount fs) (recordsFrom a ka) = ap (recordsFrom a) ea ∙ from-add a ka (firstCount fs) in
+        let rb : recordsFrom b lb ≡ drop (secondCount fs) (recordsFrom b kb) = ap (recordsFrom b) eb ∙ from-add b kb (secondCount fs) in
+        let me : merged (flagsFrom p (4 * i) 8) (recordsAt a la 8) (recordsAt b lb 8) ≡ merged gs (drop (firstCount fs) (recordsFrom a ka)) (drop (secondCount fs) (recordsFrom b kb)) =
+        rw eg (merged-at gs a b la lb 8 (omega arith) (omega (arith, over .0)) (omega (arith, over .1)) ∙ ap₂ (merged gs) ra rb) in
+        let pu : pushed (flagsFrom p (4 * i) 8) (recordsAt a la 8) (recordsAt b lb 8) ≡ pushed gs (drop (firstCount fs) (recordsFrom a ka)) (drop (secondCount fs) (recordsFrom b kb)) =
+        rw eg (pushed-at gs a b la lb 8 (omega arith) (omega (arith, over .0)) (omega (arith, over .1)) ∙ ap₂ (pushed gs) ra rb) in
+        let z : from + length (fs ++ gs) ≡ 4 * i + 8 = omega (arith, length-append fs gs) in
+        let w : from + length fs ≡ 4 * i = omega arith in
+        let y : recordsTo u (4 * i) ≡ recordsTo o from ++ merged fs (recordsFrom a ka) (recordsFrom b kb) = rw w at (v .out) in
+        rw ef
+        record {
+          takena = t .takena ∙ rw (eg, ea, first-append fs gs) (omega arith);
+          takenb = t .takenb ∙ rw (eg, eb, second-append fs gs) (omega arith);
+          queue = t .queue ∙ rw (pu, v .queue, pushed-append fs gs, append-assoc);
+          out = ap (recordsTo u') z ∙ t .out ∙ rw (me, y, merged-append fs gs, append-assoc);
           qsize = t .qsize ∙ v .qsize;
           osize = t .osize ∙ v .osize;
         }

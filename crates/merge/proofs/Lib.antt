@@ -1,10 +1,6 @@
-pub mod Codes
-pub mod Merging
+pub mod Single
+pub mod Spreading
 pub mod Levels
+pub mod Merging
 pub mod Held
 pub mod Queue
-pub mod Sealing
-pub mod Restricting
-pub mod Marking
-pub mod Compacting
-pub mod Subsets

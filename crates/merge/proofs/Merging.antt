@@ -9,8 +9,8 @@ use Rattle.loes.specs.Keys.{Key, KeySet, allKeys, filter, members, either}
 use Rattle.loes.specs.Edges.{Record, recordBits, edges, edgesBefore}
 use Rattle.loes.proofs.Lists.{bits-append}
 use Rattle.loes.proofs.Tree.{half, inhabited, rootRecord, treeLevel, level-tree, members-step}
-use Rattle.merge.specs.Records.{Flag, emptyRecord}
-use Rattle.merge.specs.Union.{flagIf, eitherRecord, nextOf, restOf, merged, childFlags, pushed, firstCount, secondCount, flagOf}
+use Rattle.records.specs.Records.{Flag, emptyRecord, flagIf, nextOf, restOf, firstCount, secondCount}
+use Rattle.merge.specs.Union.{eitherRecord, merged, childFlags, pushed, flagOf}
 
 -- which of the two sets has each prefix of d bits of the union
 unfoldable pub levelFlags : ℕ → ℕ → KeySet → KeySet → List Flag

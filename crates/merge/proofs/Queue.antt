@@ -15,13 +15,15 @@ use Rattle.loes.specs.Held.{held, Holds}
 use Rattle.loes.proofs.Tree.{inhabited, treeLevel}
 use Rattle.loes.proofs.Bytes.{length-tabulate, append-inj}
 use Rattle.loes.proofs.Bits.{tabulate-add}
-use Rattle.merge.specs.Records.{Flag, recordsTo, flagAt, flagsTo, flagsFrom, Pushed, Sealed}
-use Rattle.merge.specs.Union.{flagIf, merged, pushed, firstCount, secondCount, recordsFrom, LevelMerged, LevelRoom, Room, Merged}
-use Rattle.merge.proofs.Codes.{bits-recordsTo, push-flag}
+use Rattle.records.specs.Records.{Flag, recordsTo, flagAt, flagsTo, flagsFrom, Pushed, Sealed, flagIf, firstCount, secondCount}
+use Rattle.records.specs.Numbers.{overread}
+use Rattle.merge.specs.Union.{merged, pushed, recordsFrom, LevelMerged, LevelRoom, Room, Merged}
+use Rattle.records.proofs.Codes.{bits-recordsTo}
+use Rattle.merge.proofs.Single.{push-flag}
 use Rattle.merge.proofs.Merging.{levelFlags, treeLevels, queueFlags, over-pushed, over-merged, over-level, over-levels, levels-more, length-levels, flags-more, flags-members, edges-levels}
 use Rattle.merge.proofs.Levels.{length-one, length-pushed}
 use Rattle.merge.proofs.Held.{RecordsHeld, setIn, held-of, held-length, level-at}
-use Rattle.merge.proofs.Sealing.{written}
+use Rattle.records.proofs.Sealing.{written}
 
 -- d levels done
 pub record Done (m : ℕ) (s t : KeySet) (q₀ o₀ : Bytes) (d from ka kb end : ℕ) (q o : Bytes) : Type 0 where
@@ -107,8 +109,8 @@ module _ {m : ℕ} {s t : KeySet} {a b q₀ o₀ : Bytes} {ra rb d from ka kb en
     more-second : kb + secondCount (levelFlags d m s t) ≡ length (treeLevels (suc d) 0 m t)
     more-second = rw (over-level d m s t h .second, v .lb, levels-more d m t, length-append (treeLevels d 0 m t) (treeLevel d m t))
 
-    pub level-room : Room (2 * ra) (2 * rb) q₀ o₀ → ra + rb ≤ maxEdges → LevelRoom a b q o from ka kb end (flagsFrom q from (end - from))
-    level-room w l =
+    pub level-room : Room (2 * ra) (2 * rb) q₀ o₀ → ra + rb ≤ maxEdges → ra + overread ≤ 4 * length a → rb + overread ≤ 4 * length b → LevelRoom a b q o from ka kb end (flagsFrom q from (end - from))
+    level-room w l oa ob =
         let x : ka + firstCount (levelFlags d m s t) ≤ ra = omega (arith, more-first, length-levels (suc d) m s h, held-length ha) in
         let y : kb + secondCount (levelFlags d m s t) ≤ rb = omega (arith, more-second, length-levels (suc d) m t h, held-length hb) in
         let o = over-levels (suc d) 0 m s t (omega arith) in
@@ -120,8 +122,8 @@ module _ {m : ℕ} {s t : KeySet} {a b q₀ o₀ : Bytes} {ra rb d from ka kb en
           queue = omega (arith, end-most (omega arith), w .queue, v .qsize);
           small = omega (arith, w .small, v .qsize);
           out = omega (arith, w .out, v .osize);
-          first = omega (arith, ha .fits);
-          second = omega (arith, hb .fits);
+          first = omega arith;
+          second = omega arith;
           limit = omega arith;
         }
 

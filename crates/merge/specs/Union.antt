@@ -1,22 +1,20 @@
 -- Merging: two edge sequences read in step give the edges of the union, and for each member of it in which of the two it is.
 use mathlib.Core.Path.{_≡_}
 use Prim.Native.Nat.{ℕ, suc, _+_, _*_, _/_, _<_, _≤_}
-use mathlib.Core.Bool.{Bool, true, false, _||_, cond}
+use mathlib.Core.Bool.{Bool, _||_, cond}
 use mathlib.Core.List.{List, [], _∷_, _++_, map}
 use lib.ListN.{length, drop}
 use Rattle.loes.specs.Limits.{maxEdges}
 use Rattle.loes.specs.Bytes.{Bytes, bit}
-use Rattle.loes.specs.Keys.{Key, KeySet, either, without}
+use Rattle.loes.specs.Keys.{Key, KeySet, either}
 use Rattle.loes.specs.Edges.{Record}
 use Rattle.loes.specs.Entry.{Entry, keysOf, edgesOf, withSet}
-use Rattle.merge.specs.Records.{Flag, emptyRecord, recordAt, recordsTo, flagAt, flagsTo, flagsFrom, Written}
+use Rattle.records.specs.Records.{Flag, emptyRecord, recordAt, recordsTo, recordsAt, nextOf, restOf, flagAt, flagsTo, flagsFrom, flagOfRecord, recordOfFlag, flagIf, firstCount, secondCount, Written}
+use Rattle.records.specs.Numbers.{recordsOf, Short, overread}
 
 -- ---- On entries
 abbrev pub unionOf : Entry → Entry → Entry
 unionOf e f = withSet e (either (e .set) (f .set))
-
-abbrev pub differenceOf : Entry → Entry → Entry
-differenceOf e f = withSet e (without (e .set) (f .set))
 
 -- which of two sets has a key
 unfoldable pub flagOf : KeySet → KeySet → Key → Flag
@@ -31,27 +29,14 @@ pub record Merged (e f : Entry) (q o p u : Bytes) (b n : ℕ) : Type 0 where
 
 -- room for the flags that merging a and b edges pushes, and for the records that it writes
 pub record Room (a b : ℕ) (q o : Bytes) : Type 0 where
-  pub queue : a + b + 3 ≤ 4 * length q
+  pub queue : a + b + 1 + overread ≤ 4 * length q
   pub small : length q ≤ maxEdges
   pub out : a + b < 8 * length o
 
 -- ---- On lists of records
--- the flag of a prefix, if either has it
-unfoldable pub flagIf : Bool → Bool → List Flag
-flagIf a b = cond (a || b) (record { inFirst = a; inSecond = b } ∷ []) []
-
 -- the edges of either
 unfoldable pub eitherRecord : Record → Record → Record
 eitherRecord x y = record { onZero = x .onZero || y .onZero; onOne = x .onOne || y .onOne }
-
--- the next record if there is one to take, and those behind
-unfoldable pub nextOf : Bool → List Record → Record
-nextOf true (r ∷ l) = r
-nextOf true [] = emptyRecord
-nextOf false l = emptyRecord
-
-unfoldable pub restOf : Bool → List Record → List Record
-restOf b l = drop (bit b) l
 
 unfoldable pub merged : List Flag → List Record → List Record → List Record
 merged [] xs ys = []
@@ -67,14 +52,31 @@ pushed [] xs ys = []
 pushed (f ∷ fs) xs ys =
     childFlags (nextOf (f .inFirst) xs) (nextOf (f .inSecond) ys) ++ pushed fs (restOf (f .inFirst) xs) (restOf (f .inSecond) ys)
 
--- how many flags say that the first, the second has it
-unfoldable pub firstCount : List Flag → ℕ
-firstCount [] = 0
-firstCount (f ∷ fs) = bit (f .inFirst) + firstCount fs
+-- of records side by side: the edges of either, and the flags of the prefixes that they lead to
+unfoldable pub eithers : List Record → List Record → List Record
+eithers [] ys = []
+eithers (x ∷ xs) [] = []
+eithers (x ∷ xs) (y ∷ ys) = eitherRecord x y ∷ eithers xs ys
 
-unfoldable pub secondCount : List Flag → ℕ
-secondCount [] = 0
-secondCount (f ∷ fs) = bit (f .inSecond) + secondCount fs
+unfoldable pub childrenOf : List Record → List Record → List Flag
+childrenOf [] ys = []
+childrenOf (x ∷ xs) [] = []
+childrenOf (x ∷ xs) (y ∷ ys) = childFlags x y ++ childrenOf xs ys
+
+-- ---- In numbers
+-- the flags of two bytes
+unfoldable pub flagsIn : ℕ → ℕ → List Flag
+flagsIn c d = map flagOfRecord (recordsOf 4 c ++ recordsOf 4 d)
+
+-- eight flags f merged with the records xs and ys: the union's in two bytes h and k, the flags pushed in a run of c in r, and how many records are taken of each
+pub record EightMerged (f : List Flag) (xs ys : List Record) (h k r c la lb : ℕ) : Type 0 where
+  pub out : recordsOf 4 h ++ recordsOf 4 k ≡ merged f xs ys
+  pub queue : recordsOf c r ≡ map recordOfFlag (pushed f xs ys)
+  pub short : Short 16 r c
+  pub takena : la ≡ firstCount f
+  pub takenb : lb ≡ secondCount f
+  pub bytes : (h < 256) × (k < 256)
+  pub few : (la ≤ 8) × (lb ≤ 8)
 
 -- ---- In bytes
 -- record i, if it is to be taken
@@ -99,6 +101,15 @@ pub record RecordMerged (a b q o : Bytes) (i ka kb tail : ℕ) (p u : Bytes) (la
   pub qsize : length p ≡ length q
   pub osize : length u ≡ length o
 
+-- the eight flags from byte j on merged
+pub record BlockMerged (a b q o : Bytes) (j ka kb tail : ℕ) (p u : Bytes) (la lb end : ℕ) : Type 0 where
+  pub takena : la ≡ ka + firstCount (flagsFrom q (4 * j) 8)
+  pub takenb : lb ≡ kb + secondCount (flagsFrom q (4 * j) 8)
+  pub queue : flagsTo p end ≡ flagsTo q tail ++ pushed (flagsFrom q (4 * j) 8) (recordsAt a ka 8) (recordsAt b kb 8)
+  pub out : recordsTo u (4 * j + 8) ≡ recordsTo o (4 * j) ++ merged (flagsFrom q (4 * j) 8) (recordsAt a ka 8) (recordsAt b kb 8)
+  pub qsize : length p ≡ length q
+  pub osize : length u ≡ length o
+
 -- a level merged, of the flags f
 pub record LevelMerged (a b q o : Bytes) (from ka kb tail : ℕ) (f : List Flag) (p u : Bytes) (la lb end : ℕ) : Type 0 where
   pub takena : la ≡ ka + firstCount f
@@ -111,9 +122,9 @@ pub record LevelMerged (a b q o : Bytes) (from ka kb tail : ℕ) (f : List Flag)
 -- what a level needs: records to take, room for the flags pushed and the records written
 pub record LevelRoom (a b q o : Bytes) (from ka kb tail : ℕ) (f : List Flag) : Type 0 where
   pub order : from ≤ tail
-  pub queue : tail + 2 * (firstCount f + secondCount f) + 2 ≤ 4 * length q
+  pub queue : tail + 2 * (firstCount f + secondCount f) + overread ≤ 4 * length q
   pub small : length q ≤ maxEdges
   pub out : tail ≤ 4 * length o
-  pub first : ka + firstCount f ≤ 4 * length a
-  pub second : kb + secondCount f ≤ 4 * length b
+  pub first : ka + firstCount f + overread ≤ 4 * length a
+  pub second : kb + secondCount f + overread ≤ 4 * length b
   pub limit : ka + firstCount f + (kb + secondCount f) ≤ maxEdges

@@ -10,7 +10,7 @@ use Rattle.encoding.proofs.Opened.{opens-room}
 use Rattle.build.specs.Writing.{writtenOutcome}
 use Rattle.join.specs.declared.Pair.the-variants.{Opened}
 use Rattle.join.specs.Joining.{Both, Joined, joinOf}
-use Rattle.join.proofs.Joins.{opens-short, first-holds, second-holds, joined, joined-call}
+use Rattle.join.proofs.Joins.{opens-short, opens-over, first-holds, second-holds, joined, joined-call}
 use borrow.Author.Needs.{needs}
 use Rattle.join.proofs.join_with.Statement.{statement}
 use Rattle.join.proofs.join_with.Tie as tie
@@ -75,9 +75,9 @@ joined-edges-requires : tie.Need-joined-edges-requires
 joined-edges-requires c κs =
     let k = c .before .before .before .before in
     let o = both k in (
-      first-holds (start k .args .kind) (a k) (b k) (e k) (f k) (o .0) (o .1) (o .2),
+      (first-holds (start k .args .kind) (a k) (b k) (e k) (f k) (o .0) (o .1) (o .2), opens-over (a k) (e k) (o .0)),
       (
-        second-holds (start k .args .kind) (a k) (b k) (e k) (f k) (o .0) (o .1) (o .2),
+        (second-holds (start k .args .kind) (a k) (b k) (e k) (f k) (o .0) (o .1) (o .2), opens-over (b k) (f k) (o .1)),
         start k .pre .0 .enough (e k .bits) (f k .bits) (opens-short (a k) (e k) (o .0)) (opens-room (a k) (e k) (o .0) .few) (opens-short (b k) (f k) (o .1)) (opens-room (b k) (f k) (o .1) .few),
       ),
     )

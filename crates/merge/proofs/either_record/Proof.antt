@@ -1,4 +1,4 @@
-use Rattle.merge.proofs.Codes.{or-codes}
+use Rattle.merge.proofs.Single.{or-codes}
 use Rattle.merge.proofs.either_record.Statement.{statement}
 use Rattle.merge.proofs.either_record.Tie as tie
 

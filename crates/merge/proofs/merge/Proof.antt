@@ -14,13 +14,13 @@ use Rattle.merge.proofs.merge.Statement.{statement}
 use Rattle.merge.proofs.merge.Tie as tie
 
 abbrev Inv-loop : tie.InvT-loop
-Inv-loop m a ba b bb q₀ out₀ c t at₀ from₀ d₀ q out at from d = Done m (setIn m ba a) (setIn m bb b) q₀ out₀ d from (at .a) (at .b) (at .tail) q out × (d ≤ m)
+Inv-loop m a ba b bb spreads parts runs q₀ out₀ c t at₀ from₀ d₀ q out at from d = Done m (setIn m ba a) (setIn m bb b) q₀ out₀ d from (at .a) (at .b) (at .tail) q out × (d ≤ m)
 
 abbrev μ-loop : tie.MeasureT-loop
-μ-loop m a ba b bb q₀ out₀ c t at₀ from₀ d₀ q out at from d = m - d
+μ-loop m a ba b bb spreads parts runs q₀ out₀ c t at₀ from₀ d₀ q out at from d = m - d
 
 abbrev start : tie.After-slice-known3 Inv-loop μ-loop → tie.Start Inv-loop μ-loop
-start c = c .before .before .before .before .before .before .before .before .before .before
+start c = c .before .before .before .before .before .before .before .before .before .before .before .before .before
 
 some : {m b : ℕ} {l : Bytes} → Holds m b l → bit (ltb 0 b) ≡ bit (inhabited m (setIn m b l))
 some {m} {b} {l} h = let e : 2 * (b / 2) ≡ b = even m b l (h .same) in ap bit (some-records m (h .positive) (held-of h) b (λ z. omega arith) (λ p. omega arith))
@@ -28,14 +28,14 @@ some {m} {b} {l} h = let e : 2 * (b / 2) ≡ b = even m b l (h .same) in ap bit 
 room : (l : tie.At-loop Inv-loop μ-loop)
     → Room (2 * (start (l .before) .args .ba / 2)) (2 * (start (l .before) .args .bb / 2)) (l .before .before .before .push .last .0) (now (start (l .before) .args .out))
 room l =
-    let w = start (l .before) .pre .1 .1 in
+    let w = start (l .before) .pre .1 .1 .1 in
     let z = l .before .before .before .push .ensures .size in
     record { queue = omega (arith, w .queue, z); small = omega (arith, w .small, z); out = omega (arith, w .out) }
 
 few : (l : tie.At-loop Inv-loop μ-loop) → l .loop .from ≤ start (l .before) .args .ba / 2 + start (l .before) .args .bb / 2
 few l =
     let s = start (l .before) in
-    end-le (held-of (s .pre .0)) (held-of (s .pre .1 .0)) (l .loop .inv .0) (l .loop .inv .1)
+    end-le (held-of (s .pre .0 .0)) (held-of (s .pre .1 .0 .0)) (l .loop .inv .0) (l .loop .inv .1)
 
 root-flag-requires : tie.Need-root-flag-requires Inv-loop μ-loop
 root-flag-requires c κs = search needs
@@ -57,14 +57,14 @@ loop-holds c =
     let s = start c in
     let p = c .before .before in
     let x = p .before .before in
-    (done-none (x .before .root-flag .ensures .0 ∙ some (s .pre .0)) (x .root-flag2 .ensures .0 ∙ some (s .pre .1 .0)) (p .push .ensures), omega arith)
+    (done-none (x .before .root-flag .ensures .0 ∙ some (s .pre .0 .0)) (x .root-flag2 .ensures .0 ∙ some (s .pre .1 .0 .0)) (p .push .ensures), omega arith)
 
 merge-level-requires : tie.Need-merge-level-requires Inv-loop μ-loop
 merge-level-requires c κs =
     let l = c .before .before .before in
     let s = start (l .before) in
     let t : l .loop .d < s .args .m = c .before .before .loop-test .taken in
-    level-room (held-of (s .pre .0)) (held-of (s .pre .1 .0)) (l .loop .inv .0) t (room l) (omega (arith, s .pre .0 .few, s .pre .1 .0 .few))
+    (level-room (held-of (s .pre .0 .0)) (held-of (s .pre .1 .0 .0)) (l .loop .inv .0) t (room l) (omega (arith, s .pre .0 .0 .few, s .pre .1 .0 .0 .few)) (s .pre .0 .1) (s .pre .1 .0 .1), s .pre .1 .1 .0)
 
 add-d : tie.Need-add-d Inv-loop μ-loop
 add-d c =
@@ -80,25 +80,25 @@ loop-again c =
     let l = w .before .before .before .before in
     let s = start (l .before) in
     let t : l .loop .d < s .args .m = w .before .before .before .loop-test .taken in
-    (done-more (held-of (s .pre .0)) (held-of (s .pre .1 .0)) (l .loop .inv .0) t (w .merge-level .ensures), omega arith)
+    (done-more (held-of (s .pre .0 .0)) (held-of (s .pre .1 .0 .0)) (l .loop .inv .0) t (w .merge-level .ensures), omega arith)
 
 sub-n : tie.Need-sub-n Inv-loop μ-loop
 sub-n c =
     let l = c .before .before in
     let s = start (l .before) in
-    from-le (held-of (s .pre .0)) (held-of (s .pre .1 .0)) (l .loop .inv .0) (l .loop .inv .1)
+    from-le (held-of (s .pre .0 .0)) (held-of (s .pre .1 .0 .0)) (l .loop .inv .0) (l .loop .inv .1)
 
 mul-edges : tie.Need-mul-edges Inv-loop μ-loop
 mul-edges c =
     let l = c .before .before in
     let s = start (l .before) in
-    record { fits = omega (arith, few l, s .pre .0 .few, s .pre .1 .0 .few) }
+    record { fits = omega (arith, few l, s .pre .0 .0 .few, s .pre .1 .0 .0 .few) }
 
 seal-requires : tie.Need-seal-requires Inv-loop μ-loop
 seal-requires c κs =
     let l = c .before .before .before in
     let s = start (l .before) in
-    (omega (arith, few l, s .pre .1 .1 .out, l .loop .inv .0 .osize), omega (arith, few l, s .pre .0 .few, s .pre .1 .0 .few))
+    (omega (arith, few l, s .pre .1 .1 .1 .out, l .loop .inv .0 .osize), omega (arith, few l, s .pre .0 .0 .few, s .pre .1 .0 .0 .few))
 
 same-length : tie.Need-same-length Inv-loop μ-loop
 same-length c =
@@ -113,7 +113,7 @@ returns c =
     let l = c .before .before .before .before .before .before in
     let s = start (l .before) in
     let e : l .loop .d ≡ s .args .m = omega (arith, c .before .before .before .before .before .loop-test .left, l .loop .inv .1) in
-    merged-done (s .pre .0) (s .pre .1 .0) (s .pre .1 .1) (rw e at (l .loop .inv .0)) (l .before .before .before .push .ensures .size) (c .before .before .seal .ensures)
+    merged-done (s .pre .0 .0) (s .pre .1 .0 .0) (s .pre .1 .1 .1) (rw e at (l .loop .inv .0)) (l .before .before .before .push .ensures .size) (c .before .before .seal .ensures)
 
 pub merge-spec : {M : Type 1} → statement M
 merge-spec =

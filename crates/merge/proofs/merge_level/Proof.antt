@@ -1,62 +1,118 @@
-use Prim.Native.Nat.{ℕ, _-_, _≤_, _<_}
+use Prim.Native.Nat.{ℕ, _+_, _-_, _/_, _%_, _≤_, _<_}
 use mathlib.Core.Path.{_≡_}
-use Rattle.merge.specs.Records.{flagsFrom}
-use Rattle.merge.specs.Union.{LevelMerged}
-use Rattle.merge.proofs.Levels.{level-none, end-le, taken-le, room-first, room-second, level-more}
+use lib.ListN.{length}
+use denote.Ref.{now}
 use native.Mathlib.Omega.{arith}
+use borrow.Author.Needs.{needs}
+use Rattle.records.specs.Records.{flagsFrom}
+use Rattle.merge.specs.Union.{LevelMerged}
+use Rattle.merge.proofs.Levels.{level-none, over, taken-le, room-first, room-second, level-more, level-block}
 use Rattle.merge.proofs.merge_level.Statement.{statement}
 use Rattle.merge.proofs.merge_level.Tie as tie
 
 abbrev Inv-loop : tie.InvT-loop
-Inv-loop a b q₀ out₀ from n at₀ j₀ q out at j = LevelMerged a b q₀ out₀ from (at₀ .a) (at₀ .b) (at₀ .tail) (flagsFrom q₀ from j) q out (at .a) (at .b) (at .tail) × (j ≤ n)
+Inv-loop a b spreads parts runs q₀ out₀ from end to at₀ i₀ q out at i =
+    LevelMerged a b q₀ out₀ from (at₀ .a) (at₀ .b) (at₀ .tail) (flagsFrom q₀ from (i - from)) q out (at .a) (at .b) (at .tail) × (from ≤ i) × (i ≤ end)
 
 abbrev μ-loop : tie.MeasureT-loop
-μ-loop a b q₀ out₀ from n at₀ j₀ q out at j = n - j
+μ-loop a b spreads parts runs q₀ out₀ from end to at₀ i₀ q out at i = end - i
 
 abbrev start : tie.At-loop Inv-loop μ-loop → tie.Start Inv-loop μ-loop
-start l = l .before .before .before .before .before .before
+start l = l .before .before .before .before .before .before .before .before .before
 
-abbrev N : tie.At-loop Inv-loop μ-loop → ℕ
-N l = start l .args .start .tail - start l .args .from
+-- how many records of the level are done
+abbrev past : tie.At-loop Inv-loop μ-loop → ℕ
+past l = l .loop .i - start l .args .from
 
-sub-n : tie.Need-sub-n Inv-loop μ-loop
-sub-n c = omega arith
+here : (l : tie.At-loop Inv-loop μ-loop) → start l .args .from + past l ≡ l .loop .i
+here l = omega (arith, l .loop .inv .1)
+
+more : (l : tie.At-loop Inv-loop μ-loop) → l .loop .i < start l .args .start .tail → past l < start l .args .start .tail - start l .args .from
+more l t = omega (arith, l .loop .inv .1)
+
+block : (d : tie.Then1 Inv-loop μ-loop)
+    → (0 < length (now (start (d .before .before .before) .args .spreads))) × (d .before .before .before .loop .i % 4 ≡ 0) × (d .before .before .before .loop .i + 8 ≤ start (d .before .before .before) .args .start .tail)
+block d =
+    let h = d .before .has-block .ensures (d .if1 .taken) in
+    let b = d .before .before .before .before .blocks-end .ensures in
+    (b .1 (omega (arith, h .1)), h .0, omega (arith, h .1, b .0))
+
+blocks-end-requires : tie.Need-blocks-end-requires Inv-loop μ-loop
+blocks-end-requires c κs = search needs
 
 loop-holds : tie.Need-loop-holds Inv-loop μ-loop
-loop-holds c = (level-none, omega arith)
+loop-holds c =
+    let z : c .before .before .before .before .before .before .before .before .args .from - c .before .before .before .before .before .before .before .before .args .from ≡ 0 = omega arith in
+    (rw z level-none, omega arith, c .before .before .before .before .before .before .before .before .pre .0 .order)
 
-add-merge-record : tie.Need-add-merge-record Inv-loop μ-loop
-add-merge-record c =
-    let l = c .before .before .before in
-    let t : l .loop .j < N l = c .before .before .loop-test .taken in
-    record { fits = omega (arith, start l .fits) }
+has-block-requires : tie.Need-has-block-requires Inv-loop μ-loop
+has-block-requires c κs = let r = start (c .before) .pre .0 in omega (arith, r .queue, r .small, c .loop-test .taken)
 
-merge-record-requires : tie.Need-merge-record-requires Inv-loop μ-loop
-merge-record-requires c κs =
-    let l = c .before .before .before in
+merge-block-requires : tie.Need-merge-block-requires Inv-loop μ-loop
+merge-block-requires c κs =
+    let d = c .before .before in
+    let l = d .before .before .before in
     let s = start l in
-    let t : l .loop .j < N l = c .before .before .loop-test .taken in
+    let t = more l (d .before .before .loop-test .taken) in
     let v = l .loop .inv .0 in
-    let e = end-le (s .pre) (l .loop .j) t v in (
-      (omega (arith, v .qsize, e, s .pre .queue), omega (arith, v .osize, s .pre .out), omega (arith, v .qsize, e), omega (arith, v .qsize, s .pre .small)),
-      (room-first (s .pre) (l .loop .j) t v, (room-second (s .pre) (l .loop .j) t v, taken-le (s .pre) (l .loop .j) t v)),
+    let r = block d in
+    let o = over (s .pre .0) (past l) t v in (
+      (omega (arith, v .qsize, s .pre .0 .queue, r .2), omega (arith, v .osize, s .pre .0 .out, r .2), omega (arith, v .qsize, o .2)),
+      ((o .0, o .1, taken-le (s .pre .0) (past l) t v, omega (arith, v .qsize, s .pre .0 .small)), s .pre .1 (r .0)),
     )
 
-add-j : tie.Need-add-j Inv-loop μ-loop
-add-j c =
-    let l = c .before .before .before .before .before .before .before .before in
-    let t : l .loop .j < N l = c .before .before .before .before .before .before .before .loop-test .taken in
-    record { fits = omega (arith, start l .fits) }
+add-i : tie.Need-add-i Inv-loop μ-loop
+add-i c =
+    let d = c .before .before .before .before .before .before .before in
+    let l = d .before .before .before in
+    record { fits = omega (arith, block d .2, start l .fits, l .loop .inv .2) }
 
 loop-less : tie.Need-loop-less Inv-loop μ-loop
-loop-less c = omega arith
+loop-less c =
+    let d = c .before .before .before .before .before .before .before in
+    omega (arith, block d .2)
 
 loop-again : tie.Need-loop-again Inv-loop μ-loop
 loop-again c =
     let m = c .before .before .before .before in
-    let l = m .before .before .before .before in
-    let t : l .loop .j < N l = m .before .before .before .loop-test .taken in
-    (level-more (start l .pre) (l .loop .j) t (l .loop .inv .0) (m .merge-record .ensures), omega arith)
+    let d = m .before .before .before in
+    let l = d .before .before .before in
+    let s = start l in
+    let r = block d in
+    let i : ℕ = l .loop .i in
+    let z : i + 8 - s .args .from ≡ past l + 8 = omega (arith, l .loop .inv .1) in
+    let e : i + 8 ≤ s .args .start .tail = omega (arith, r .2, l .loop .inv .2) in
+    (rw z (level-block (s .pre .0) (past l) (more l (d .before .before .loop-test .taken)) (l .loop .inv .0) (i / 4) (omega (arith, r .1, here l)) (omega (arith, e)) (m .merge-block .ensures)), omega (arith, l .loop .inv .1), e)
+
+merge-record-requires : tie.Need-merge-record-requires Inv-loop μ-loop
+merge-record-requires c κs =
+    let l = c .before .before .before .before .before in
+    let s = start l in
+    let t = more l (c .before .before .before .before .loop-test .taken) in
+    let v = l .loop .inv .0 in
+    let e = over (s .pre .0) (past l) t v .2 in
+    let z : l .loop .i ≡ s .args .from + past l = omega (arith, here l) in (
+      (omega (arith, v .qsize, e, s .pre .0 .queue, l .loop .inv .2), omega (arith, v .osize, s .pre .0 .out), omega (arith, v .qsize, e), omega (arith, v .qsize, s .pre .0 .small)),
+      (rw z (room-first (s .pre .0) (past l) t v), (rw z (room-second (s .pre .0) (past l) t v), taken-le (s .pre .0) (past l) t v)),
+    )
+
+add-i-2 : tie.Need-add-i-2 Inv-loop μ-loop
+add-i-2 c =
+    let l = c .before .before .before .before .before .before .before .before .before .before in
+    record { fits = omega (arith, c .before .before .before .before .before .before .before .before .before .loop-test .taken, start l .fits, l .loop .inv .2) }
+
+loop-less-2 : tie.Need-loop-less-2 Inv-loop μ-loop
+loop-less-2 c = omega (arith, c .before .before .before .before .before .before .before .before .before .loop-test .taken)
+
+loop-again-2 : tie.Need-loop-again-2 Inv-loop μ-loop
+loop-again-2 c =
+    let m = c .before .before .before .before in
+    let l = m .before .before .before .before .before .before in
+    let s = start l in
+    let t = m .before .before .before .before .before .loop-test .taken in
+    let z : l .loop .i + 1 - s .args .from ≡ past l + 1 = omega (arith, l .loop .inv .1) in
+    let y : s .args .from + past l ≡ l .loop .i = here l in
+    (rw z (level-more (s .pre .0) (past l) (more l t) (l .loop .inv .0) (rw y (m .merge-record .ensures))), omega (arith, l .loop .inv .1), omega arith)
 
 same-length : tie.Need-same-length Inv-loop μ-loop
 same-length c = c .before .loop .inv .0 .qsize
@@ -67,7 +123,7 @@ same-length-2 c = c .before .loop .inv .0 .osize
 returns : tie.Need-returns Inv-loop μ-loop
 returns c =
     let l = c .before in
-    let e : l .loop .j ≡ N l = omega (arith, c .loop-test .left, l .loop .inv .1) in
+    let e : past l ≡ start l .args .start .tail - start l .args .from = omega (arith, c .loop-test .left, l .loop .inv .2) in
     rw e at (l .loop .inv .0)
 
 pub merge-level-spec : {M : Type 1} → statement M
@@ -76,13 +132,17 @@ merge-level-spec =
     (tie.spec
     Inv-loop
     μ-loop
-    sub-n
+    blocks-end-requires
     loop-holds
-    add-merge-record
-    merge-record-requires
-    add-j
+    has-block-requires
+    merge-block-requires
+    add-i
     loop-less
     loop-again
+    merge-record-requires
+    add-i-2
+    loop-less-2
+    loop-again-2
     same-length
     same-length-2
     returns)

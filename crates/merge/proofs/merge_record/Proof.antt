@@ -1,6 +1,6 @@
 use mathlib.Core.Path.{_∙_}
 use denote.Ref.{now}
-use Rattle.merge.proofs.Codes.{step-ok, flag-odd}
+use Rattle.merge.proofs.Single.{step-ok, flag-odd}
 use borrow.Author.Needs.{needs}
 use native.Mathlib.Omega.{arith}
 use Rattle.merge.proofs.merge_record.Statement.{statement}

@@ -1,7 +1,7 @@
 use Prim.Native.Nat.{_+_, _*_, _/_}
 use Rattle.loes.proofs.Tree.{bit-le}
-use Rattle.merge.specs.Records.{hasEdge, recordOfCode}
-use Rattle.merge.proofs.Codes.{push-both}
+use Rattle.records.specs.Records.{hasEdge, recordOfCode}
+use Rattle.merge.proofs.Single.{push-both}
 use borrow.Author.Needs.{needs}
 use native.Mathlib.Omega.{arith}
 use Rattle.merge.proofs.push_children.Statement.{statement}

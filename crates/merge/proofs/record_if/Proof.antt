@@ -3,7 +3,7 @@ use mathlib.Core.Bool.{true, false}
 use Prim.Native.Nat.{_%_}
 use borrow.Author.Tests.{ne-eqb}
 use Rattle.loes.specs.Bytes.{odd}
-use Rattle.merge.specs.Records.{emptyRecord, recordOfCode}
+use Rattle.records.specs.Records.{emptyRecord, recordOfCode}
 use Rattle.merge.specs.Union.{takenRecord}
 use native.Mathlib.Omega.{arith}
 use Rattle.merge.proofs.record_if.Statement.{statement}

@@ -1,0 +1,70 @@
+-- Tables filled entry by entry, and rules computed over all entries.
+use mathlib.Core.Path.{_≡_, refl, sym, ap, _∙_}
+use Prim.Native.Nat.{ℕ, zero, suc, _+_, _<_}
+use mathlib.Core.Bool.{Bool, true, false, false≢true}
+use mathlib.Core.List.{List, [], _∷_}
+use native.Mathlib.Omega.{arith}
+use lib.ListN.{length, getD, set, length-set}
+use lib.Dec.{eqb}
+use lib.Seq.{getD-set-same, getD-set-other}
+use Rattle.loes.proofs.Tests.{yes-eq, eq-yes}
+use Rattle.records.specs.Tables.{Ruled}
+use Rattle.join_tables.specs.Entries.{Filled}
+
+-- ---- A rule computed
+-- n values of f, from i on
+unfoldable pub each : {A : Type 0} → (ℕ → A) → ℕ → ℕ → List A
+each f i zero = []
+each f i (suc n) = f i ∷ each f (suc i) n
+
+-- the same at each index from i on
+each-from : {A : Type 0} (f g : ℕ → A) (i n : ℕ) → each f i n ≡ each g i n → (k : ℕ) → k < n → f (i + k) ≡ g (i + k)
+unfolding each
+each-from f g i zero e k h = absurd (omega arith)
+each-from f g i (suc n) e zero h =
+    let z : i + 0 ≡ i = omega arith in
+    let a : f i ≡ g i = cc in
+    rw z a
+each-from f g i (suc n) e (suc k) h =
+    let z : i + suc k ≡ suc i + k = omega arith in
+    let b : each f (suc i) n ≡ each g (suc i) n = cc in
+    rw z (each-from f g (suc i) n b k (omega arith))
+
+-- functions whose first n values compute to the same are the same at each of them
+pub each-at : {A : Type 0} (f g : ℕ → A) (n : ℕ) → each f 0 n ≡ each g 0 n → (i : ℕ) → i < n → f i ≡ g i
+each-at f g n e i h = let z : 0 + i ≡ i = omega arith in rw z at (each-from f g 0 n e i h)
+
+-- a table filled with what code says is ruled if code is
+pub ruled : {A : Type 0} (read f : ℕ → A) (code : ℕ → ℕ) (n : ℕ) → each (λ i. read (code i)) 0 n ≡ each f 0 n
+    → (t : List ℕ) → length t ≡ n → Filled code n t → Ruled read f n t
+ruled read f code n e t l h = record { size = l; rule = λ i b. ap read (h i b) ∙ each-at (λ i. read (code i)) f n e i b }
+
+-- ---- An entry set
+-- an entry is set to what code says: then each is what code says if it was, or if it is the one
+set-right : (code : ℕ → ℕ) (t : List ℕ) (p v : ℕ) → p < length t → v ≡ code p
+    → (j : ℕ) → ((j ≡ p → ⊥) → getD t j 0 ≡ code j) → getD (set t p v) j 0 ≡ code j
+set-right code t p v h e j k = go (eqb j p) refl
+  where
+    go : (b : Bool) → eqb j p ≡ b → getD (set t p v) j 0 ≡ code j
+    go true s = let z : j ≡ p = yes-eq j p s in rw z (getD-set-same t p v 0 h ∙ e)
+    go false s =
+        let n : j ≡ p → ⊥ = λ z. false≢true (sym s ∙ ap (λ x. eqb x p) z ∙ eq-yes p) in
+        getD-set-other t p j v 0 n ∙ k n
+
+-- one more entry is filled
+pub fill-one : (code : ℕ → ℕ) (t : List ℕ) (n v : ℕ) → n < length t → v ≡ code n → Filled code n t → Filled code (n + 1) (set t n v)
+fill-one code t n v h e f j l = set-right code t n v h e j (λ s. f j (omega arith))
+
+-- the same of four entries
+pub four-right : (code : ℕ → ℕ) (t : List ℕ) (p q r s a b c d : ℕ) → p < length t → q < length t → r < length t → s < length t
+    → a ≡ code p → b ≡ code q → c ≡ code r → d ≡ code s
+    → (j : ℕ) → ((j ≡ p → ⊥) → (j ≡ q → ⊥) → (j ≡ r → ⊥) → (j ≡ s → ⊥) → getD t j 0 ≡ code j)
+    → getD (set (set (set (set t p a) q b) r c) s d) j 0 ≡ code j
+four-right code t p q r s a b c d hp hq hr hs ea eb ec ed j k =
+    let t1 : List ℕ = set t p a in
+    let t2 : List ℕ = set t1 q b in
+    let t3 : List ℕ = set t2 r c in
+    set-right code t3 s d (simp length-set hs) ed j (λ ns.
+    set-right code t2 r c (simp length-set hr) ec j (λ nr.
+    set-right code t1 q b (simp length-set hq) eb j (λ nq.
+    set-right code t p a hp ea j (λ np. k np nq nr ns))))

@@ -1,0 +1,4 @@
+pub mod Filling
+pub mod SpreadTable
+pub mod PartTable
+pub mod RunTable

@@ -1,0 +1,4 @@
+pub mod Codes
+pub mod Sealing
+pub mod Numbers
+pub mod Lookups

@@ -1,0 +1,20 @@
+use native.Mathlib.Omega.{arith}
+use Rattle.records.proofs.Numbers.{four-in-ok}
+use borrow.Author.Needs.{needs}
+use Rattle.records.proofs.four_in.Statement.{statement}
+use Rattle.records.proofs.four_in.Tie as tie
+
+mul-result : tie.Need-mul-result
+mul-result c = search needs
+
+sub-result : tie.Need-sub-result
+sub-result c = search needs
+
+shr-result : tie.Need-shr-result
+shr-result c = search needs
+
+returns : tie.Need-returns
+returns c = (four-in-ok (c .args .x) (c .args .n) (c .pre), omega arith)
+
+pub four-in-spec : {M : Type 1} → statement M
+four-in-spec = tie.close (tie.spec mul-result sub-result shr-result returns)

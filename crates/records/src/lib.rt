@@ -1,0 +1,184 @@
+// Records in bytes: one at a time, in windows and runs of several, and looked up in tables.
+ghost use Prim.Native.Nat.{_+_, _*_, _/_, _^_, _<_, _≤_};
+ghost use mathlib.Core.Path.{_≡_};
+ghost use mathlib.Core.List.{_++_, map};
+ghost use lib.ListN.{length, take, drop};
+ghost use Rattle.loes.specs.Limits.{maxEdges};
+ghost use Rattle.loes.specs.Edges.{Record};
+ghost use Rattle.records.specs.Records.{recordOfCode, recordAt, recordsAt, flagOfRecord, recordOfFlag, firstCount, secondCount, withRecord, Put, Pushed, Sealed};
+ghost use Rattle.records.specs.Numbers.{recordsOf, bitsOf, Short, Appended};
+ghost use Rattle.records.specs.Tables.{spread, keptBy, eitherFlags, Spreads, Parted, Runs};
+
+// ---- Records in bytes, as numbers 2·onZero + onOne
+
+// Record i of bytes.
+pub fn record_at(l: &[u8], i: usize) -> u8
+    requires { ⌜ i / 4 < length (now l) ⌝ }
+    ensures { λ r. ⌜ (recordOfCode r ≡ recordAt (now (l .entry)) i) × (r < 4) ⌝ }
+{
+    let x = l[i / 4];
+    (x >> (6 - 2 * (i % 4))) % 4
+}
+
+// A byte with its record k set to z.
+fn with_record(old: u8, k: usize, z: u8) -> u8
+    requires { ⌜ (k < 4) × (z < 4) ⌝ }
+    ensures { λ r. ⌜ r ≡ withRecord old k z ⌝ }
+{
+    let s = 6 - 2 * k;
+    let was = (old >> s) % 4;
+    old - (was << s) + (z << s)
+}
+
+// Record i of bytes is set to z.
+pub fn put_record(out: &mut [u8], i: usize, z: u8)
+    requires { ⌜ (i / 4 < length (now out)) × (z < 4) ⌝ }
+    ensures { λ _. ⌜ Put i z (now (out .entry)) (now (out .exit)) ⌝ }
+{
+    let at = i / 4;
+    let old = out[at];
+    out[at] = with_record(old, i % 4, z);
+}
+
+// Record z is put behind the first n, which grow by it if it has an edge.
+pub fn push(out: &mut [u8], n: usize, z: u8) -> usize
+    requires { ⌜ (n < 4 * length (now out)) × (z < 4) × (n ≤ 4 * maxEdges) ⌝ }
+    ensures { λ r. ⌜ Pushed n z (now (out .entry)) (now (out .exit)) r ⌝ }
+{
+    put_record(out, n, z);
+    if z > 0 { n + 1 } else { n }
+}
+
+// The records behind the first k, up to the end of their byte, are cleared.
+pub fn seal(out: &mut [u8], k: usize)
+    requires { ⌜ (k ≤ 4 * length (now out)) × (k ≤ 4 * maxEdges) ⌝ }
+    ensures { λ _. ⌜ Sealed k (now (out .entry)) (now (out .exit)) ⌝ }
+{
+    let mut i = k;
+    while i % 4 > 0 {
+        put_record(out, i, 0);
+        i += 1;
+    }
+}
+
+// ---- Several records at a time: in windows of bytes, and in runs
+
+// A byte as a number.
+pub fn wide(x: u8) -> usize
+    ensures { λ r. ⌜ (r ≡ x) × (r < 256) ⌝ }
+{
+    x as usize
+}
+
+// Eight records from record i on.
+pub fn window(l: &[u8], i: usize) -> usize
+    requires { ⌜ i / 4 + 3 < length (now l) ⌝ }
+    ensures { λ r. ⌜ (recordsOf 8 r ≡ recordsAt (now (l .entry)) i 8) × (r < 65536) ⌝ }
+{
+    let at = i / 4;
+    let x = wide(l[at]) * 16777216
+        + wide(l[at + 1]) * 65536
+        + wide(l[at + 2]) * 256
+        + wide(l[at + 3]);
+    (x >> (16 - 2 * (i % 4))) % 65536
+}
+
+// Four records behind the first n of eight.
+pub fn four_in(x: usize, n: usize) -> usize
+    requires { ⌜ n ≤ 4 ⌝ }
+    ensures { λ r. ⌜ (recordsOf 4 r ≡ take 4 (drop n (recordsOf 8 x))) × (r < 256) ⌝ }
+{
+    (x >> (8 - 2 * n)) % 256
+}
+
+// A run of records: so many in a number.
+pub struct Run {
+    pub records: usize,
+    pub count: usize,
+}
+
+// A run, and one behind it.
+pub fn run_and(h: Run, g: Run) -> Run
+    requires { ⌜ Short 8 (h .records) (h .count) × Short 8 (g .records) (g .count) ⌝ }
+    ensures { λ r. ⌜ (recordsOf (r .count) (r .records) ≡ recordsOf (h .count) (h .records) ++ recordsOf (g .count) (g .records)) × (r .records < 2 ^ (2 * r .count)) × (r .count ≡ h .count + g .count) ⌝ }
+{
+    let n = g.count;
+    let x = (h.records << (2 * n)) + g.records;
+    Run {
+        records: x,
+        count: h.count + n,
+    }
+}
+
+// A run put behind the first k records.
+pub fn append(out: &mut [u8], k: usize, r: Run)
+    requires { ⌜ (k / 4 + 4 < length (now out)) × Short 16 (r .records) (r .count) ⌝ }
+    ensures { λ _. ⌜ Appended k (r .count) (r .records) (now (out .entry)) (now (out .exit)) ⌝ }
+{
+    let at = k / 4;
+    let n = 2 * r.count;
+    let p = 2 * (k % 4);
+    let old = wide(out[at]);
+    let v = (((old >> (8 - p)) << n) + r.records) << (40 - p - n);
+    out[at] = (v / 4294967296) as u8;
+    out[at + 1] = (v / 16777216 % 256) as u8;
+    out[at + 2] = (v / 65536 % 256) as u8;
+    out[at + 3] = (v / 256 % 256) as u8;
+    out[at + 4] = (v % 256) as u8;
+}
+
+// ---- Tables, filled once and lent
+
+// The records of x put where the bits of f are set.
+pub fn spread_at(t: &[u8], f: usize, x: usize) -> usize
+    requires { ⌜ Spreads (now t) × (f < 16) × (x < 256) ⌝ }
+    ensures { λ r. ⌜ (recordsOf 4 r ≡ spread (bitsOf 4 f) (recordsOf 4 x)) × (r < 256) ⌝ }
+{
+    wide(t[256 * f + x])
+}
+
+// Of four flags: which say that the first, the second has it, and how many.
+pub struct Parts {
+    pub firsts: usize,
+    pub seconds: usize,
+    pub first: usize,
+    pub second: usize,
+}
+
+// The same of the flags in a byte.
+pub fn parts_at(t: &[u32], x: u8) -> Parts
+    requires { ⌜ Parted (now t) ⌝ }
+    ensures { λ r. ⌜ (bitsOf 4 (r .firsts) ≡ map (λ (z : Record). z .onOne) (recordsOf 4 x)) × (r .firsts < 16) ⌝ }
+    ensures { λ r. ⌜ (bitsOf 4 (r .seconds) ≡ map (λ (z : Record). z .onZero) (recordsOf 4 x)) × (r .seconds < 16) ⌝ }
+    ensures { λ r. ⌜ (r .first ≡ firstCount (map flagOfRecord (recordsOf 4 x))) × (r .first ≤ 4) ⌝ }
+    ensures { λ r. ⌜ (r .second ≡ secondCount (map flagOfRecord (recordsOf 4 x))) × (r .second ≤ 4) ⌝ }
+{
+    let h = t[wide(x)] as usize;
+    Parts {
+        firsts: h / 256 % 16,
+        seconds: h / 16 % 16,
+        first: h % 16,
+        second: h / 4096 % 16,
+    }
+}
+
+// Which of the four records of a byte are kept, by test w.
+pub fn kept_in(t: &[u32], x: usize, w: usize) -> usize
+    requires { ⌜ Parted (now t) × (x < 256) × (w < 4) ⌝ }
+    ensures { λ r. ⌜ (bitsOf 4 r ≡ map (keptBy w) (recordsOf 4 x)) × (r < 16) ⌝ }
+{
+    let h = t[x] as usize;
+    (h >> (16 + 4 * w)) % 16
+}
+
+// The flags of four bits of each that are in either.
+pub fn run_at(t: &[u16], x: usize, y: usize) -> Run
+    requires { ⌜ Runs (now t) × (x < 16) × (y < 16) ⌝ }
+    ensures { λ r. ⌜ (recordsOf (r .count) (r .records) ≡ map recordOfFlag (eitherFlags (bitsOf 4 x) (bitsOf 4 y))) × Short 4 (r .records) (r .count) ⌝ }
+{
+    let h = t[16 * x + y] as usize;
+    Run {
+        records: h % 256,
+        count: h / 256,
+    }
+}

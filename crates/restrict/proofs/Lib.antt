@@ -1,0 +1,5 @@
+pub mod Marking
+pub mod Masking
+pub mod Compacting
+pub mod Restricting
+pub mod Subsets

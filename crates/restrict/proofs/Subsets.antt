@@ -1,0 +1,226 @@
+-- What marking and collecting leave: the edges of the subset that the flags name.
+use mathlib.Core.Path.{_≡_, refl, sym, ap, _∙_}
+use Prim.Native.Nat.{ℕ, zero, suc, _+_, _-_, _*_, _/_, _≤_, _<_}
+use mathlib.Core.Bool.{Bool, true, false, _&&_, _||_, not}
+use mathlib.Core.List.{List, [], _∷_, map}
+use native.Mathlib.Omega.{arith}
+use lib.ListN.{length, getD, length-map}
+use lib.Dec.{ltb, eqb}
+use Rattle.loes.specs.Bytes.{Bytes, bit, bitAt, bitsIn, tabulate, packBits}
+use Rattle.loes.specs.Keys.{Key, KeySet, members, filter, smaller, either, without}
+use Rattle.loes.specs.Edges.{Record, recordBits, ones, edges}
+use Rattle.loes.specs.Limits.{maxEdges}
+use Rattle.loes.specs.Entry.{Entry, keysOf, count, edgesOf, edgeCount, withSet, ofWidth}
+use Rattle.loes.proofs.Tests.{eq-yes}
+use Rattle.loes.specs.Read.{followed}
+use Rattle.loes.specs.Held.{held, Holds}
+use Rattle.loes.proofs.Lists.{bits-append, length-bits, ones-append, getD-map-in, length-filter}
+use Rattle.loes.proofs.Tree.{inhabited, prefixCount, length-members, prefixesBefore, before-smaller, members-at, index-lt}
+use Rattle.loes.proofs.Navigation.{recordsBefore, length-edgesBefore, ones-edgesBefore, present-is}
+use Rattle.loes.proofs.Bytes.{getD-tabulate, length-tabulate}
+use Rattle.loes.proofs.Extensional.{Agree, edges-ext, members-ext}
+use Rattle.loes.proofs.Forest.{NoEmpty}
+use Rattle.records.specs.Records.{emptyRecord, hasEdge, children, childrenBefore, recordAt, recordsTo, Flag, flagAt, flagsFrom, isFlag, Written}
+use Rattle.merge.specs.Union.{flagOf, unionOf, Merged}
+use Rattle.restrict.specs.Restriction.{differenceOf, restricted, flagMask, maskedFrom, Flagged, Entries, Marked, Restricted}
+use Rattle.records.proofs.Codes.{records-more, length-records}
+use Rattle.merge.proofs.Merging.{treeLevels, edges-levels}
+use Rattle.merge.proofs.Held.{RecordsHeld, held-records, held-length, some-records, edges-records}
+use Rattle.records.proofs.Sealing.{written-bits, written-room}
+use Rattle.restrict.proofs.Restricting.{within, edge-children, no-empty-levels, restrict-edges, mask-members}
+
+-- ---- Every entry but the first is led to by an edge
+ones-one : (r : Record) → ones (recordBits (r ∷ [])) ≡ children r
+unfolding ones recordBits children
+ones-one r = go (r .onZero) (r .onOne)
+  where
+    go : (a b : Bool) → ones (a ∷ b ∷ []) ≡ bit a + bit b
+    go true true = refl
+    go true false = refl
+    go false true = refl
+    go false false = refl
+
+children-ones : (l : Bytes) (r : ℕ) → childrenBefore l r ≡ ones (recordBits (recordsTo l r))
+unfolding childrenBefore
+children-ones l zero = unfold recordsTo tabulate recordBits ones in refl
+children-ones l (suc r) =
+    rw (children-ones l r, records-more l r, bits-append (recordsTo l r) (recordAt l r ∷ []), ones-append (recordBits (recordsTo l r)) (recordBits (recordAt l r ∷ [])), ones-one (recordAt l r))
+
+full-at : (l : List Record) (k : ℕ) → NoEmpty l → k < length l → 1 ≤ children (getD l k emptyRecord)
+full-at [] k c h = absurd (omega arith)
+full-at (x ∷ l) zero c h = edge-children x (unfold hasEdge in c .0)
+full-at (x ∷ l) (suc k) c h = full-at l k (c .1) (omega arith)
+
+pub held-entries : {m : ℕ} {s : KeySet} {l : Bytes} {r : ℕ} → 0 < m → RecordsHeld m s l r → (n : ℕ) → n ≡ length (members m s) → Entries l r n
+unfolding edges recordsBefore prefixCount recordsTo
+held-entries {m} {s} {l} {r} p h n e =
+    let k : childrenBefore l r ≡ ones (edges m s) = children-ones l r ∙ ap ones (ap recordBits (h .records) ∙ sym (edges-levels m s)) in
+    let b : 2 * r ≡ length (edges m s) = sym (ap length (edges-levels m s) ∙ length-bits (treeLevels m 0 m s) ∙ ap (λ x. 2 * x) (sym (held-length h))) in
+    let c : bit (ltb 0 r) ≡ bit (inhabited m s) = ap bit (some-records m p h r (λ z. z) (λ z. z)) in
+    record {
+      total = omega (arith, k, b, c, e, length-members m s, length-edgesBefore m m s (omega arith), ones-edgesBefore m m s (omega arith));
+      full = λ i g.
+          let f : getD (recordsTo l r) i emptyRecord ≡ recordAt l i = getD-tabulate (recordAt l) r i emptyRecord g in
+          rw f at (full-at (recordsTo l r) i (rw (h .records) (no-empty-levels m 0 m s)) (rw (length-records l r) g));
+    }
+
+-- ---- What is left is the subset's edges
+pub marked-edges : (e : Entry) {w : ℕ} {l q p : Bytes} {r n : ℕ} → RecordsHeld (e .width) (e .set) l r → n ≡ count e → Marked w l q r n p
+    → recordBits (filter hasEdge (recordsTo p r)) ≡ edgesOf (restricted (flagMask w q r) e)
+unfolding edgesOf restricted withSet keysOf
+marked-edges e {w} {l} {q} {p} {r} {n} h c v =
+    let f : Key → Bool = λ k. flagMask w q r (smaller k (keysOf e)) in
+    let k : tabulate (flagMask w q r) n ≡ map f (keysOf e) = rw c (sym (mask-members e (flagMask w q r))) in
+    rw (v .out, h .records, k) (restrict-edges (e .width) (e .set) f)
+    ∙ edges-ext (e .width) (within (e .set) f) (restricted (flagMask w q r) e .set) (λ j g. unfold within in refl)
+
+-- ---- Of eitherFlags edge bytes
+module _ {m b n : ℕ} {l q : Bytes} (h : Flagged m b n l q) where
+  pub flagged-entries : Entries l (b / 2) n
+  unfolding count keysOf held followed
+  flagged-entries = held-entries (h .positive) (held-records m b l (h .room) (h .same)) n (h .members)
+
+  flagged-held : RecordsHeld (held m b l .width) (held m b l .set) l (b / 2)
+  unfolding held followed
+  flagged-held = held-records m b l (h .room) (h .same)
+
+  pub flagged-edges : {w : ℕ} {p : Bytes} → Marked w l q (b / 2) n p → recordBits (filter hasEdge (recordsTo p (b / 2))) ≡ edgesOf (restricted (flagMask w q (b / 2)) (held m b l))
+  flagged-edges v = marked-edges (held m b l) flagged-held (h .members) v
+
+  pub flagged-count : {w : ℕ} {p : Bytes} → Marked w l q (b / 2) n p → edgeCount (restricted (flagMask w q (b / 2)) (held m b l)) ≡ 2 * length (filter hasEdge (recordsTo p (b / 2)))
+  unfolding edgeCount
+  flagged-count {p} v = ap length (sym (flagged-edges v)) ∙ length-bits (filter hasEdge (recordsTo p (b / 2)))
+
+  pub flagged-restricted : {w : ℕ} {p o u : Bytes} {k : ℕ} → Marked w l q (b / 2) n p → Written (recordBits (filter hasEdge (recordsTo p (b / 2)))) o u k → k ≤ 2 * (b / 2)
+      → Restricted (flagMask w q (b / 2)) (held m b l) (b / 2) q o p u k
+  flagged-restricted v c g =
+      record { edges = rw (flagged-edges v) at c; less = g; flags = λ j i. unfold flagAt in rw (v .other j i); queue = v .size }
+
+-- ---- A subset never has more edges
+length-from : (h : ℕ) (l : List Record) (k : List Bool) → length (maskedFrom h l k) ≡ length l
+unfolding maskedFrom
+length-from h [] k = refl
+length-from h (r ∷ l) k = ap suc (length-from (h - 1 + children r) l k)
+
+pub fewer-edges : (m : ℕ) (s p : KeySet) → length (edges m (within s p)) ≤ length (edges m s)
+fewer-edges m s p =
+    let l : List Record = treeLevels m 0 m s in
+    let k : List Record = maskedFrom 1 l (map p (members m s)) in
+    rw (← restrict-edges m s p, edges-levels m s, length-bits (filter hasEdge k), length-bits l)
+    (omega (arith, length-filter hasEdge k, length-from 1 l (map p (members m s))))
+
+-- ---- A merge's flags and edges
+module _ {e f : Entry} {q o p u : Bytes} {b n : ℕ} (v : Merged e f q o p u b n) where
+  pub merged-count : n ≡ count (unionOf e f)
+  unfolding count flagsFrom
+  merged-count = sym (length-tabulate (λ k. flagAt p (b / 2 + k)) n) ∙ ap length (v .flags) ∙ rw length-map
+
+  pub merged-held : RecordsHeld (e .width) (either (e .set) (f .set)) u (b / 2)
+  unfolding edgesOf withSet
+  merged-held =
+      let s : KeySet = either (e .set) (f .set) in
+      let z : b ≡ 2 * length (treeLevels (e .width) 0 (e .width) s) = v .edges .count ∙ ap length (edges-levels (e .width) s) ∙ length-bits (treeLevels (e .width) 0 (e .width) s) in
+      let y : 2 * (b / 2) ≡ b = omega arith in
+      record { records = edges-records (e .width) s u (b / 2) (rw y (written-bits (v .edges))); fits = omega (arith, written-room (v .edges)) }
+
+  pub merged-entries : 0 < e .width → Entries u (b / 2) n
+  unfolding count keysOf withSet
+  merged-entries h = held-entries h merged-held n merged-count
+
+  -- a member's flag is the one at its index
+  flag-at : (k : Key) → length k ≡ e .width → either (e .set) (f .set) k ≡ true → flagAt p (b / 2 + smaller k (keysOf (unionOf e f))) ≡ flagOf (e .set) (f .set) k
+  unfolding count keysOf withSet flagsFrom
+  flag-at k l h =
+      let m : ℕ = e .width in
+      let s : KeySet = either (e .set) (f .set) in
+      let i : ℕ = smaller k (members m s) in
+      let d : Flag = record { inFirst = false; inSecond = false } in
+      let a : i ≡ prefixesBefore k m s = before-smaller k m s l in
+      let g : i < length (members m s) = rw a (index-lt k m s l h) in
+      let c : i < n = rw merged-count g in
+      sym (getD-tabulate (λ j. flagAt p (b / 2 + j)) n i d c)
+      ∙ ap (λ x. getD x i d) (v .flags)
+      ∙ getD-map-in (flagOf (e .set) (f .set)) (members m s) i [] d g
+      ∙ ap (flagOf (e .set) (f .set)) (ap (λ j. getD (members m s) j []) a ∙ members-at k m s l h)
+
+  -- the members whose flag is w
+  pub flagged-set : (w : ℕ) (k : Key) → length k ≡ e .width
+      → restricted (flagMask w p (b / 2)) (unionOf e f) .set k ≡ (either (e .set) (f .set) k && isFlag w (flagOf (e .set) (f .set) k))
+  unfolding restricted withSet flagMask
+  flagged-set w k l = go (either (e .set) (f .set) k) refl
+    where
+      go : (c : Bool) → either (e .set) (f .set) k ≡ c
+          → (c && isFlag w (flagAt p (b / 2 + smaller k (keysOf (unionOf e f))))) ≡ (c && isFlag w (flagOf (e .set) (f .set) k))
+      go true h = ap (isFlag w) (flag-at k l h)
+      go false h = refl
+
+-- 1: in the first only
+pub first-only : (s t : KeySet) (k : Key) → (either s t k && isFlag 1 (flagOf s t k)) ≡ without s t k
+unfolding either isFlag flagOf without
+first-only s t k = go (s k) (t k)
+  where
+    go : (a b : Bool) → ((a || b) && eqb (bit a + bit b * 2) 1) ≡ (a && not b)
+    go true true = refl
+    go true false = refl
+    go false true = refl
+    go false false = refl
+
+pub difference-edges : {e f : Entry} {q o p u : Bytes} {b n : ℕ} → Merged e f q o p u b n → edgesOf (restricted (flagMask 1 p (b / 2)) (unionOf e f)) ≡ edgesOf (differenceOf e f)
+unfolding edgesOf withSet restricted
+difference-edges {e} {f} {p} {b} v =
+    edges-ext (e .width) (restricted (flagMask 1 p (b / 2)) (unionOf e f) .set) (without (e .set) (f .set)) (λ k l. flagged-set v 1 k l ∙ first-only (e .set) (f .set) k)
+
+pub subtracted : {e f : Entry} {q o p u x : Bytes} {b n : ℕ} → Merged e f q o p u b n → Marked 1 u p (b / 2) n x → recordBits (filter hasEdge (recordsTo x (b / 2))) ≡ edgesOf (differenceOf e f)
+unfolding withSet
+subtracted {e} {f} v w = marked-edges (unionOf e f) (merged-held v) (merged-count v) w ∙ difference-edges v
+
+pub difference-fewer : (e f : Entry) → edgeCount (differenceOf e f) ≤ edgeCount e
+unfolding edgeCount edgesOf withSet
+difference-fewer e f =
+    let p : KeySet = λ k. not (f .set k) in
+    rw (edges-ext (e .width) (without (e .set) (f .set)) (within (e .set) p) (λ k l. unfold without within in refl)) (fewer-edges (e .width) (e .set) p)
+
+-- the difference, of a first set in x bits
+pub subtract-entries : {m x : ℕ} {a : Bytes} {f : Entry} {q o p u : Bytes} {b n : ℕ} → Holds m x a → Merged (held m x a) f q o p u b n → Entries u (b / 2) n
+unfolding held followed
+subtract-entries h v = merged-entries v (h .positive)
+
+module _ {m x : ℕ} {a : Bytes} {f : Entry} {q o p u z : Bytes} {b n : ℕ} (h : Holds m x a) (v : Merged (held m x a) f q o p u b n) (w : Marked 1 u p (b / 2) n z) where
+  first-count : edgeCount (held m x a) ≡ x
+  unfolding edgeCount bitsIn
+  first-count = ap length (h .same) ∙ length-tabulate (bitAt a) x
+
+  pub subtracted-count : 2 * length (filter hasEdge (recordsTo z (b / 2))) ≤ x
+  unfolding edgeCount
+  subtracted-count =
+      let l : List Record = filter hasEdge (recordsTo z (b / 2)) in
+      omega (arith, length-bits l, ap length (subtracted v w), difference-fewer (held m x a) f, first-count)
+
+  pub subtract-done : {y : Bytes} {k : ℕ} → Written (recordBits (filter hasEdge (recordsTo z (b / 2)))) u y k → Written (edgesOf (differenceOf (held m x a) f)) o y k × (k ≤ x)
+  subtract-done c =
+      let g : recordBits (filter hasEdge (recordsTo z (b / 2))) ≡ edgesOf (differenceOf (held m x a) f) = subtracted v w in (
+        record { count = c .count ∙ ap length g; bytes = c .bytes ∙ ap packBits g; size = c .size ∙ v .edges .size },
+        omega (arith, c .count, length-bits (filter hasEdge (recordsTo z (b / 2))), subtracted-count),
+      )
+
+-- ---- A merge can be restricted
+same-set : (e : Entry) {o p : Bytes} {b : ℕ} → Written (edgesOf e) o p b → 0 < e .width → Agree (e .width) (held (e .width) b p .set) (e .set)
+unfolding edgesOf held followed ofWidth
+same-set e w h k l = rw (written-bits w, l, eq-yes (e .width)) (present-is k (e .width) (e .set) l h)
+
+same-edges : (e : Entry) {o p : Bytes} {b : ℕ} → Written (edgesOf e) o p b → 0 < e .width → edgesOf (held (e .width) b p) ≡ bitsIn p b
+unfolding edgesOf held followed
+same-edges e {o} {p} {b} w h =
+    edges-ext (e .width) (held (e .width) b p .set) (e .set) (same-set e (unfold edgesOf in w) h) ∙ sym (written-bits w)
+
+pub merged-flagged : {e f : Entry} {q o p u : Bytes} {b n : ℕ} → Merged e f q o p u b n → 0 < e .width → length q ≤ maxEdges → Flagged (e .width) b n u p
+unfolding count keysOf withSet held followed
+merged-flagged {e} {f} {p} {u} {b} v h l =
+    record {
+      positive = h;
+      same = same-edges (unionOf e f) (v .edges) h;
+      room = written-room (v .edges);
+      members = merged-count v ∙ ap length (sym (members-ext (e .width) (held (e .width) b u .set) (either (e .set) (f .set)) (same-set (unionOf e f) (v .edges) h)));
+      flags = v .fits;
+      small = rw (v .queue) l;
+    }

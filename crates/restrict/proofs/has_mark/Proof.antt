@@ -1,0 +1,59 @@
+use mathlib.Core.Bool.{false≢true}
+use mathlib.Core.Logic.{⊎-elim}
+use native.Mathlib.Omega.{arith}
+use borrow.Author.Tests.{ltb-true}
+use borrow.Author.Needs.{needs}
+use Rattle.restrict.proofs.has_mark.Statement.{statement}
+use Rattle.restrict.proofs.has_mark.Tie as tie
+
+returns : tie.Need-returns
+returns c = λ e. absurd (false≢true e)
+
+returns-2 : tie.Need-returns-2
+returns-2 c = λ e. absurd (false≢true e)
+
+returns-3 : tie.Need-returns-3
+returns-3 c = λ e. absurd (false≢true e)
+
+returns-4 : tie.Need-returns-4
+returns-4 c = λ e. absurd (false≢true e)
+
+returns-5 : tie.Need-returns-5
+returns-5 c = λ e. absurd (false≢true e)
+
+returns-6 : tie.Need-returns-6
+returns-6 c = λ e. absurd (false≢true e)
+
+returns-7 : tie.Need-returns-7
+returns-7 c = λ e. absurd (false≢true e)
+
+add-result : tie.Need-add-result
+add-result c = search needs
+
+returns-8 : tie.Need-returns-8
+returns-8 c =
+    λ e. (
+      omega arith,
+      record {
+        flag = (omega arith, omega arith);
+        whole = omega arith;
+        less = omega arith;
+        behind = omega arith;
+        same = λ h. ⊎-elim (λ p. omega (arith, p .1 .left)) (λ p. absurd (omega (arith, p .left))) (c .if7 .came);
+        queue = ltb-true _ _ e;
+      },
+    )
+
+pub has-mark-spec : {M : Type 1} → statement M
+has-mark-spec =
+    tie.close
+    (tie.spec
+    returns
+    returns-2
+    returns-3
+    returns-4
+    returns-5
+    returns-6
+    returns-7
+    add-result
+    returns-8)

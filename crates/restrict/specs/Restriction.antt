@@ -1,0 +1,108 @@
+-- Restricting: the edges of the subset that a mask over members names, from the set's edges.
+use mathlib.Core.Path.{_≡_}
+use Prim.Native.Nat.{ℕ, _+_, _-_, _*_, _/_, _%_, _<_, _≤_}
+use mathlib.Core.Bool.{Bool, false, _&&_, cond}
+use mathlib.Core.List.{List, [], _∷_, _++_, map}
+use lib.ListN.{length, getD, drop}
+use lib.Dec.{ltb}
+use Rattle.loes.specs.Limits.{maxEdges}
+use Rattle.loes.specs.Bytes.{Bytes, bit, bitsIn, tabulate}
+use Rattle.loes.specs.Keys.{Key, without, smaller, filter}
+use Rattle.loes.specs.Edges.{Record}
+use Rattle.loes.specs.Entry.{Entry, keysOf, count, edgesOf, withSet}
+use Rattle.loes.specs.Held.{held}
+use Rattle.records.specs.Records.{hasEdge, children, childrenBefore, recordOfCode, recordAt, recordsTo, recordsAt, flagAt, isFlag, Written}
+
+-- ---- On entries
+-- the keys whose index, the number of smaller keys, a mask takes
+unfoldable pub restricted : (ℕ → Bool) → Entry → Entry
+restricted f e = withSet e (λ (k : Key). e .set k && f (smaller k (keysOf e)))
+
+-- the keys of the first set but not of the second
+abbrev pub differenceOf : Entry → Entry → Entry
+differenceOf e f = withSet e (without (e .set) (f .set))
+
+-- the mask of those members whose flag, from place r on, is w
+unfoldable pub flagMask : ℕ → Bytes → ℕ → ℕ → Bool
+flagMask w q r i = isFlag w (flagAt q (r + i))
+
+-- edge bytes, of any number of bits, that hold an entry of n members, whose flags stand in q behind one place for each record
+pub record Flagged (m b n : ℕ) (l q : Bytes) : Type 0 where
+  pub positive : 0 < m
+  pub same : edgesOf (held m b l) ≡ bitsIn l b
+  pub room : b ≤ 8 * length l
+  pub members : n ≡ count (held m b l)
+  pub flags : b / 2 + n ≤ 4 * length q
+  pub small : length q ≤ maxEdges
+
+-- what restricting an entry of r records leaves: the subset's edges in b bits, no more than there were; the members' flags stay
+pub record Restricted (f : ℕ → Bool) (e : Entry) (r : ℕ) (q o p u : Bytes) (b : ℕ) : Type 0 where
+  pub edges : Written (edgesOf (restricted f e)) o u b
+  pub less : b ≤ 2 * r
+  pub flags : (j : ℕ) → r ≤ j → flagAt p j ≡ flagAt q j
+  pub queue : length p ≡ length q
+
+-- ---- On lists of records
+-- a record less the edges that are not kept; its edges' entries are from c on
+unfoldable pub maskAt : (ℕ → Bool) → ℕ → Record → Record
+maskAt f c r = record { onZero = r .onZero && f c; onOne = r .onOne && f (c + bit (r .onZero)) }
+
+-- the same; k: for each set edge in order, whether it is kept
+unfoldable pub maskRecord : Record → List Bool → Record
+maskRecord r k = maskAt (λ (i : ℕ). getD k i false) 0 r
+
+-- from the last record to the first: an edge is kept if the record, or the member, that it leads to is; the first one's edges lead h entries on
+unfoldable pub maskedFrom : ℕ → List Record → List Bool → List Record
+maskedFrom h [] p = []
+maskedFrom h (r ∷ l) p =
+    maskRecord r (drop (h - 1) (map hasEdge (maskedFrom (h - 1 + children r) l p) ++ p)) ∷ maskedFrom (h - 1 + children r) l p
+
+-- ---- In bytes: the masked records take the first r places of the queue, in front of the members' flags
+-- entry j is kept: a record with an edge left, or a member whose flag is w
+unfoldable pub keptAt : ℕ → Bytes → ℕ → ℕ → Bool
+keptAt w q r j = cond (ltb j r) (hasEdge (recordAt q j)) (isFlag w (flagAt q j))
+
+-- r records, each with an edge, and n members: every entry but the first is led to by an edge
+pub record Entries (e : Bytes) (r n : ℕ) : Type 0 where
+  pub total : r + n ≡ bit (ltb 0 r) + childrenBefore e r
+  pub full : (k : ℕ) → k < r → 1 ≤ children (recordAt e k)
+
+-- record i of q is set to record x less the edges whose entries, from c on, are not kept
+pub record RecordMarked (w : ℕ) (q : Bytes) (r x i c : ℕ) (p : Bytes) : Type 0 where
+  pub size : length p ≡ length q
+  pub here : recordAt p i ≡ maskAt (keptAt w q r) c (recordOfCode x)
+  pub other : (j : ℕ) → (j ≡ i → ⊥) → recordAt p j ≡ recordAt q j
+
+pub record Marked (w : ℕ) (e q : Bytes) (r n : ℕ) (p : Bytes) : Type 0 where
+  pub out : recordsTo p r ≡ maskedFrom 1 (recordsTo e r) (tabulate (flagMask w q r) n)
+  pub other : (j : ℕ) → r ≤ j → recordAt p j ≡ recordAt q j
+  pub size : length p ≡ length q
+
+-- the records of q with an edge, moved together in p
+pub record Compacted (q : Bytes) (r : ℕ) (o p : Bytes) (k : ℕ) : Type 0 where
+  pub out : recordsTo p k ≡ filter hasEdge (recordsTo q r)
+  pub size : length p ≡ length o
+
+-- ---- Several records at a time
+-- records, one behind the other, less the edges that are not kept, whose entries are from c on; and how many edges records have
+unfoldable pub maskedAt : (ℕ → Bool) → ℕ → List Record → List Record
+maskedAt f c [] = []
+maskedAt f c (r ∷ l) = maskAt f c r ∷ maskedAt f (c + children r) l
+
+unfoldable pub childCount : List Record → ℕ
+childCount [] = 0
+childCount (r ∷ l) = children r + childCount l
+
+-- what marking a byte whole needs. The first i records end with the byte's four. Their k edges lead to the k entries before c, which stand behind them and are all records, or all members; members are kept if their flag is w
+pub record MarkRoom (w r i k c l : ℕ) : Type 0 where
+  pub flag : (1 ≤ w) × (w ≤ 3)
+  pub whole : i % 4 ≡ 0
+  pub less : k ≤ c
+  pub behind : i ≤ c - k
+  pub same : c - k < r → c ≤ r
+  pub queue : (c - k) / 4 + 3 < l
+
+-- the records of the four bytes from byte j on that have an edge, put behind the first k
+pub record BlockCompacted (q : Bytes) (j : ℕ) (o : Bytes) (k : ℕ) (p : Bytes) (l : ℕ) : Type 0 where
+  pub records : recordsTo p l ≡ recordsTo o k ++ filter hasEdge (recordsAt q (4 * j) 16)
+  pub size : length p ≡ length o

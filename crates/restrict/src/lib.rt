@@ -1,0 +1,323 @@
+// The edge bytes of a subset: the edges that lead to no kept member are dropped, from the last to the first, then the empty records.
+ghost use Prim.Native.Nat.{_+_, _*_, _/_, _%_, _<_, _≤_};
+ghost use mathlib.Core.Path.{_≡_};
+ghost use mathlib.Core.Bool.{true, _&&_, cond};
+ghost use mathlib.Core.List.{_++_, map};
+ghost use lib.ListN.{length};
+ghost use lib.Dec.{ltb, eqb};
+ghost use Rattle.loes.specs.Limits.{maxEdges};
+ghost use Rattle.loes.specs.Bytes.{odd, bit};
+ghost use Rattle.loes.specs.Keys.{filter};
+ghost use Rattle.loes.specs.Edges.{recordBits};
+ghost use Rattle.loes.specs.Entry.{edgesOf, edgeCount};
+ghost use Rattle.loes.specs.Held.{held, Holds};
+ghost use Rattle.records.specs.Records.{recordOfCode, recordAt, recordsTo, hasEdge, Written};
+ghost use Rattle.records.specs.Numbers.{recordsOf, bitsOf, Short, overread};
+ghost use Rattle.records.specs.Tables.{spread, byEdge, keptBy, Spreads, Parted, Runs, TablesLent};
+ghost use Rattle.merge.specs.Union.{Room};
+ghost use Rattle.restrict.specs.Restriction.{restricted, differenceOf, flagMask, Flagged, Restricted, keptAt, maskedAt, childCount, Entries, RecordMarked, MarkRoom, Marked, BlockCompacted, Compacted};
+use records::Run;
+
+// ---- Restrict
+
+// 1 if the record has an edge, else 0.
+fn has_edge(x: u8) -> u8
+    requires { ⌜ x < 4 ⌝ }
+    ensures { λ r. ⌜ (r ≡ bit (hasEdge (recordOfCode x))) × (r ≤ 1) ⌝ }
+{
+    if x > 0 { 1 } else { 0 }
+}
+
+// 1 if the flag is w, else 0.
+fn is_flag(x: u8, w: u8) -> u8
+    ensures { λ r. ⌜ (r ≡ bit (eqb x w)) × (r ≤ 1) ⌝ }
+{
+    if x == w { 1 } else { 0 }
+}
+
+// 1 if entry j is kept: a record with an edge left, or a member whose flag is w.
+fn entry(q: &[u8], r: usize, w: u8, j: usize) -> u8
+    requires { ⌜ j < 4 * length (now q) ⌝ }
+    ensures { λ k. ⌜ (k ≡ bit (keptAt w (now (q .entry)) r j)) × (k ≤ 1) ⌝ }
+{
+    let x = records::record_at(q, j);
+    if j < r { has_edge(x) } else { is_flag(x, w) }
+}
+
+// The same if f is odd, else 0.
+fn entry_if(f: u8, q: &[u8], r: usize, w: u8, j: usize) -> u8
+    requires { ⌜ (odd f ≡ true → j < 4 * length (now q)) ⌝ }
+    ensures { λ k. ⌜ (k ≡ bit (odd f && keptAt w (now (q .entry)) r j)) × (k ≤ 1) ⌝ }
+{
+    if f % 2 == 1 { entry(q, r, w, j) } else { 0 }
+}
+
+// Record i of q: record x less the edges that are not kept, whose entries are from c on.
+fn mark_record(q: &mut [u8], r: usize, w: u8, x: u8, i: usize, c: usize)
+    requires { ⌜ (c + x / 2 + x % 2 ≤ 4 * length (now q)) × (x < 4) × (i < 4 * length (now q)) × (length (now q) ≤ maxEdges) ⌝ }
+    ensures { λ _. ⌜ RecordMarked w (now (q .entry)) r x i c (now (q .exit)) ⌝ }
+{
+    let z = (x / 2) as usize;
+    let a = entry_if(x / 2, q, r, w, c);
+    let b = entry_if(x, q, r, w, c + z);
+    records::put_record(q, i, a * 2 + b);
+}
+
+// How many edges a byte has.
+fn edges_in(parts: &[u32], x: u8) -> usize
+    requires { ⌜ Parted (now parts) ⌝ }
+    ensures { λ r. ⌜ (r ≡ childCount (recordsOf 4 x)) × (r ≤ 8) ⌝ }
+{
+    let h = records::parts_at(parts, x);
+    h.first + h.second
+}
+
+// The same if tables are lent, else 0.
+fn edges_if(tables: usize, parts: &[u32], x: u8) -> usize
+    requires { ⌜ (0 < tables → Parted (now parts)) ⌝ }
+    ensures { λ r. ⌜ (0 < tables → r ≡ childCount (recordsOf 4 x)) × (r ≤ 8) ⌝ }
+{
+    if tables > 0 { edges_in(parts, x) } else { 0 }
+}
+
+// Two records in x, less the edges whose entries in v, taken in order, fail test w.
+fn mark_half(spreads: &[u8], parts: &[u32], w: usize, x: usize, v: usize) -> usize
+    requires { ⌜ Spreads (now spreads) × Parted (now parts) × (w < 4) × (x < 16) × (v < 256) ⌝ }
+    ensures { λ z. ⌜ (bitsOf 4 z ≡ map (keptBy w) (spread (bitsOf 4 x) (recordsOf 4 v))) × (z < 16) ⌝ }
+{
+    let u = records::spread_at(spreads, x, v);
+    records::kept_in(parts, u, w)
+}
+
+// The four records of a byte of edges, less the edges whose entries, from d on, fail test w.
+fn mark_byte(q: &[u8], spreads: &[u8], parts: &[u32], w: usize, x: u8, d: usize) -> usize
+    requires { ⌜ (w < 4) × (d / 4 + 3 < length (now q)) × (d ≤ 4 * maxEdges) ⌝ }
+    requires { ⌜ Spreads (now spreads) × Parted (now parts) ⌝ }
+    ensures { λ z. ⌜ (recordsOf 4 z ≡ maskedAt (λ m. keptBy w (recordAt (now (q .entry)) m)) d (recordsOf 4 x)) × (z < 256) ⌝ }
+{
+    let v = records::window(q, d);
+    let n = edges_in(parts, x / 16);
+    let a = mark_half(
+        spreads,
+        parts,
+        w,
+        records::wide(x / 16),
+        records::four_in(v, 0),
+    );
+    let b = mark_half(
+        spreads,
+        parts,
+        w,
+        records::wide(x % 16),
+        records::four_in(v, n),
+    );
+    a * 16 + b
+}
+
+// The test of a record: that it has an edge.
+const BY_EDGE: usize = 0;
+
+// The test of entry d: of a member, that its flag is w.
+fn test_at(d: usize, r: usize, w: u8) -> usize
+    ensures { λ t. ⌜ (t ≡ cond (ltb d r) byEdge w) ⌝ }
+{
+    if d < r { BY_EDGE } else { w as usize }
+}
+
+// Whether a byte of k edges can be marked: tables are lent, the first i records end with its four, the k entries before c stand
+// behind them, all of them records, or members, and there are the bytes that are read.
+fn has_mark(tables: usize, w: u8, r: usize, i: usize, k: usize, c: usize, l: usize) -> bool
+    ensures { λ t. ⌜ (t ≡ true → (0 < tables) × MarkRoom w r i k c l) ⌝ }
+{
+    if tables == 0 {
+        return false;
+    }
+    if i % 4 > 0 {
+        return false;
+    }
+    if w == 0 {
+        return false;
+    }
+    if w > 3 {
+        return false;
+    }
+    if c < k {
+        return false;
+    }
+    let d = c - k;
+    if d < i {
+        return false;
+    }
+    if d < r {
+        if r < c {
+            return false;
+        }
+    }
+    d / 4 + 3 < l
+}
+
+// The r records of e less the edges under which no member has flag w, from the last to the first, in the first r places of q.
+fn mark(e: &[u8], spreads: &[u8], parts: &[u32], q: &mut [u8], r: usize, n: usize, w: u8)
+    requires { ⌜ (r ≤ 4 * length (now e)) × (r + n ≤ 4 * length (now q)) × (length (now q) ≤ maxEdges) ⌝ }
+    requires { ⌜ Entries (now e) r n ⌝ }
+    requires { ⌜ (0 < length (now spreads) → Spreads (now spreads) × Parted (now parts)) ⌝ }
+    ensures { λ _. ⌜ Marked w (now (e .entry)) (now (q .entry)) r n (now (q .exit)) ⌝ }
+{
+    let mut i = r;
+    let mut c = r + n;
+    while i > 0 {
+        let j = i - 1;
+        let y = e[j / 4];
+        let k = edges_if(spreads.len(), parts, y);
+        if has_mark(spreads.len(), w, r, i, k, c, q.len()) {
+            let d = c - k;
+            let z = mark_byte(q, spreads, parts, test_at(d, r, w), y, d);
+            q[j / 4] = z as u8;
+            c = d;
+            i -= 4;
+        } else {
+            let x = records::record_at(e, j);
+            let d = c - (x / 2 + x % 2) as usize;
+            mark_record(q, r, w, x, j, d);
+            c = d;
+            i = j;
+        }
+    }
+}
+
+// The records of a byte that have an edge.
+fn byte_run(parts: &[u32], runs: &[u16], x: u8) -> Run
+    requires { ⌜ Parted (now parts) × Runs (now runs) ⌝ }
+    ensures { λ r. ⌜ (recordsOf (r .count) (r .records) ≡ filter hasEdge (recordsOf 4 x)) × Short 4 (r .records) (r .count) ⌝ }
+{
+    let f = records::parts_at(parts, x);
+    records::run_at(runs, f.firsts, f.seconds)
+}
+
+// The same of two bytes.
+fn bytes_run(parts: &[u32], runs: &[u16], x: u8, y: u8) -> Run
+    requires { ⌜ Parted (now parts) × Runs (now runs) ⌝ }
+    ensures { λ r. ⌜ (recordsOf (r .count) (r .records) ≡ filter hasEdge (recordsOf 4 x ++ recordsOf 4 y)) × Short 8 (r .records) (r .count) ⌝ }
+{
+    let h = byte_run(parts, runs, x);
+    let g = byte_run(parts, runs, y);
+    records::run_and(h, g)
+}
+
+// The records that are moved at a time.
+const MOVED: usize = 16;
+
+// Whether the records of four bytes can be moved: tables are lent, the next n records begin with theirs, and there is room behind the first k of l bytes.
+fn has_run(tables: usize, i: usize, n: usize, k: usize, l: usize) -> bool
+    ensures { λ r. ⌜ (r ≡ true → (0 < tables) × (i % 4 ≡ 0) × (16 ≤ n) × (k / 4 + 4 < l)) ⌝ }
+{
+    if n < MOVED {
+        return false;
+    }
+    if i % 4 > 0 {
+        return false;
+    }
+    if tables == 0 {
+        return false;
+    }
+    k / 4 + 4 < l
+}
+
+// The records of the four bytes from byte j of q on that have an edge, put behind the first k.
+fn compact_block(q: &[u8], parts: &[u32], runs: &[u16], j: usize, out: &mut [u8], k: usize) -> usize
+    requires { ⌜ (j + 3 < length (now q)) × (k / 4 + 4 < length (now out)) × (k ≤ 4 * maxEdges) × Parted (now parts) × Runs (now runs) ⌝ }
+    ensures { λ r. ⌜ BlockCompacted (now (q .entry)) j (now (out .entry)) k (now (out .exit)) r ⌝ }
+{
+    let h = bytes_run(parts, runs, q[j], q[j + 1]);
+    let g = bytes_run(parts, runs, q[j + 2], q[j + 3]);
+    let c = records::run_and(h, g);
+    let n = c.count;
+    records::append(out, k, c);
+    k + n
+}
+
+// The first r records of q that have an edge, moved together.
+fn compact(q: &[u8], spreads: &[u8], parts: &[u32], runs: &[u16], r: usize, out: &mut [u8]) -> usize
+    requires { ⌜ (r ≤ 4 * length (now q)) × (r ≤ 4 * maxEdges) × (length (filter hasEdge (recordsTo (now q) r)) < 4 * length (now out)) ⌝ }
+    requires { ⌜ TablesLent (now spreads) (now parts) (now runs) ⌝ }
+    ensures { λ k. ⌜ Compacted (now (q .entry)) r (now (out .entry)) (now (out .exit)) k ⌝ }
+{
+    let mut i = 0;
+    let mut k = 0;
+    while i < r {
+        if has_run(spreads.len(), i, r - i, k, out.len()) {
+            k = compact_block(q, parts, runs, i / 4, out, k);
+            i += MOVED;
+        } else {
+            let x = records::record_at(q, i);
+            k = records::push(out, k, x);
+            i += 1;
+        }
+    }
+    k
+}
+
+// The same, and what is left of their last byte cleared: how many bits they are.
+fn collect(q: &[u8], spreads: &[u8], parts: &[u32], runs: &[u16], r: usize, out: &mut [u8]) -> usize
+    requires { ⌜ (r ≤ 4 * length (now q)) × (r ≤ 4 * maxEdges) × (length (filter hasEdge (recordsTo (now q) r)) < 4 * length (now out)) ⌝ }
+    requires { ⌜ TablesLent (now spreads) (now parts) (now runs) ⌝ }
+    ensures { λ b. ⌜ Written (recordBits (filter hasEdge (recordsTo (now (q .entry)) r))) (now (out .entry)) (now (out .exit)) b × (b ≤ 2 * r) ⌝ }
+{
+    let k = compact(q, spreads, parts, runs, r, out);
+    records::seal(out, k);
+    2 * k
+}
+
+// The edges of the members whose flag is w, of a set of m bits with b edges in e; the flags of its n members stand in q from place b / 2 on.
+pub fn restrict(
+    m: usize,
+    e: &[u8],
+    b: usize,
+    n: usize,
+    w: u8,
+    spreads: &[u8],
+    parts: &[u32],
+    runs: &[u16],
+    q: &mut [u8],
+    out: &mut [u8],
+) -> usize
+    requires { ⌜ Flagged m b n (now e) (now q) ⌝ }
+    requires { ⌜ TablesLent (now spreads) (now parts) (now runs) ⌝ }
+    requires { ⌜ edgeCount (restricted (flagMask w (now q) (b / 2)) (held m b (now e))) < 8 * length (now out) ⌝ }
+    ensures { λ k. ⌜ Restricted (flagMask w (now (q .entry)) (b / 2)) (held m b (now (e .entry))) (b / 2) (now (q .entry)) (now (out .entry)) (now (q .exit)) (now (out .exit)) k ⌝ }
+{
+    let r = b / 2;
+    mark(e, spreads, parts, q, r, n, w);
+    collect(q, spreads, parts, runs, r, out)
+}
+
+// ---- Difference
+
+// The flag of the members that only the first set has.
+const FIRST_ONLY: u8 = 1;
+
+// The edges of the difference of two sets of m bits: the merge, restricted in place.
+pub fn subtract(
+    m: usize,
+    a: &[u8],
+    ba: usize,
+    b: &[u8],
+    bb: usize,
+    spreads: &[u8],
+    parts: &[u32],
+    runs: &[u16],
+    q: &mut [u8],
+    out: &mut [u8],
+) -> usize
+    requires { ⌜ Holds m ba (now a) × (ba / 2 + overread ≤ 4 * length (now a)) ⌝ }
+    requires { ⌜ Holds m bb (now b) × (bb / 2 + overread ≤ 4 * length (now b)) ⌝ }
+    requires { ⌜ TablesLent (now spreads) (now parts) (now runs) ⌝ }
+    requires { ⌜ Room ba bb (now q) (now out) ⌝ }
+    ensures { λ k. ⌜ Written (edgesOf (differenceOf (held m ba (now (a .entry))) (held m bb (now (b .entry))))) (now (out .entry)) (now (out .exit)) k × (k ≤ ba) ⌝ }
+{
+    let u = merge::merge(m, a, ba, b, bb, spreads, parts, runs, q, out);
+    let r = u.edges / 2;
+    let n = u.members;
+    mark(out, spreads, parts, q, r, n, FIRST_ONLY);
+    collect(q, spreads, parts, runs, r, out)
+}
