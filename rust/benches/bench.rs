@@ -25,18 +25,19 @@ fn main() {
     // widths up to the limit of 524,280 edge bits
     let tables = [
         table(random_keys::<2>(20_000), "random"),
-        table(random_keys::<4>(12_000), "random"),
+        table(random_keys::<4>(14_000), "random"),
         table(random_keys::<8>(4_900), "random"),
         table(random_keys::<32>(1_030), "random"),
     ];
     for table in &tables {
         table.print();
     }
-    table(clustered_keys(100, 500), "clustered").print();
+    table(clustered_keys::<4>(96, 256), "clustered").print();
+    table(clustered_keys::<8>(100, 500), "clustered").print();
     println!("\n## Growth with the width\n");
     growth(&tables);
     println!("\n## Growth with the number of keys, width 32\n");
-    growth(&[16, 64, 256, 1_024, 4_096, 12_000].map(|n| table(random_keys::<4>(n), "random")));
+    growth(&[16, 64, 256, 1_024, 4_096, 14_000].map(|n| table(random_keys::<4>(n), "random")));
 }
 
 // ---- Measuring
@@ -115,15 +116,15 @@ fn random_keys<const T: usize>(n: usize) -> Vec<[u8; T]> {
     keys.into_iter().collect()
 }
 
-/// Keys of 64 bits in runs: one in two numbers of each.
-fn clustered_keys(runs: usize, each: usize) -> Vec<[u8; 8]> {
+/// Keys of at most 64 bits in runs: one in two numbers of each.
+fn clustered_keys<const T: usize>(runs: usize, each: usize) -> Vec<[u8; T]> {
     let mut rng = Rng(3);
     let mut keys = BTreeSet::new();
     for _ in 0..runs {
-        let mut number = rng.next() >> 20 << 20;
+        let mut number = rng.next() >> 20 << 20 >> (64 - 8 * T);
         for _ in 0..each {
             number += 1 + rng.next() % 3;
-            keys.insert(number.to_be_bytes());
+            keys.insert(number.to_be_bytes()[8 - T..].try_into().unwrap());
         }
     }
     keys.into_iter().collect()

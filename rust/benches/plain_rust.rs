@@ -492,7 +492,7 @@ pub fn pack(width: u64, batch: &[u8], out: &mut [u8]) -> Result<usize, u64> {
     write(m, counts[m], &ends, &edges, out)
 }
 
-// ---- Merge and restrict
+// ---- Union and difference, eight records at a time
 
 fn record(l: &[u8], i: usize) -> u8 {
     l[i / 4] >> (6 - 2 * (i % 4)) & 3
@@ -501,6 +501,88 @@ fn record(l: &[u8], i: usize) -> u8 {
 fn put_record(l: &mut [u8], i: usize, x: u8) {
     let shift = 6 - 2 * (i % 4);
     l[i / 4] = l[i / 4] & !(3 << shift) | x << shift;
+}
+
+/// Entry 256 f + x: the four records of x put where the four bits of f are set.
+static SPREAD: [u8; 4_096] = spread();
+
+const fn spread() -> [u8; 4_096] {
+    let mut table = [0; 4_096];
+    let mut i = 0;
+    while i < 4_096 {
+        let (f, x) = (i / 256, i % 256);
+        let (mut records, mut next, mut bit) = (0, 6, 8);
+        while bit > 0 {
+            records *= 4;
+            if f & bit != 0 {
+                records += x >> next & 3;
+                next = if next > 0 { next - 2 } else { 0 };
+            }
+            bit /= 2;
+        }
+        table[i] = records as u8;
+        i += 1;
+    }
+    table
+}
+
+/// For four flags, in fields of four bits from the lowest: how many have the first bit, which have the second, which the first,
+/// how many the second; which are not 0, and which are 1, 2, 3.
+static PARTS: [u32; 256] = parts();
+
+const fn parts() -> [u32; 256] {
+    let mut table = [0; 256];
+    let mut i = 1;
+    while i < 256 {
+        let e = table[i / 4];
+        let own = [0, 0x0011_0101, 0x0101_1010, 0x1001_1111][i % 4];
+        table[i] = e + (e & 0xFFFF_0FF0) + own;
+        i += 1;
+    }
+    table
+}
+
+/// Entry 16 x + y: 256 times how many of the four pairs of bits are not 0, and those pairs.
+static RUNS: [u16; 256] = runs();
+
+const fn runs() -> [u16; 256] {
+    let mut table = [0; 256];
+    let mut i = 1;
+    while i < 256 {
+        let e = table[i / 32 * 16 + i % 16 / 2];
+        let pair = (i / 16 % 2 + i % 2 * 2) as u16;
+        table[i] = if pair > 0 { e + e % 256 * 3 + 256 + pair } else { e };
+        i += 1;
+    }
+    table
+}
+
+/// Eight records from record i on.
+fn eight(l: &[u8], i: usize) -> usize {
+    let at = i / 4;
+    u32::from_be_bytes(l[at..at + 4].try_into().unwrap()) as usize >> (16 - 2 * (i % 4)) & 0xFFFF
+}
+
+/// A run of records and how many.
+#[derive(Clone, Copy)]
+struct Run(usize, usize);
+
+impl Run {
+    fn and(self, other: Run) -> Run {
+        Run((self.0 << (2 * other.1)) + other.0, self.1 + other.1)
+    }
+
+    fn of(x: usize, y: usize) -> Run {
+        let h = usize::from(RUNS[16 * (x & 15) + (y & 15)]);
+        Run(h % 256, h / 256)
+    }
+}
+
+/// A run put behind the first k records.
+fn append(out: &mut [u8], k: usize, Run(records, count): Run) {
+    let (at, p, n) = (k / 4, 2 * (k % 4), 2 * count);
+    let v = (((usize::from(out[at]) >> (8 - p)) << n) + records) << (40 - p - n);
+    out[at..at + 5].copy_from_slice(&v.to_be_bytes()[3..]);
 }
 
 /// Two flags for each record of the union and behind them for each member: in the first, in the second.
@@ -517,9 +599,16 @@ fn push(queue: &mut [u8], tail: usize, flags: u8) -> usize {
     tail + usize::from(flags > 0)
 }
 
+/// Four flags merged: the union's records, and the flags that they push.
+fn merge_four(f: usize, x: usize, y: usize) -> (usize, Run) {
+    let u = usize::from(SPREAD[f & 0xF00 | x & 0xFF]);
+    let v = usize::from(SPREAD[f << 4 & 0xF00 | y & 0xFF]);
+    (u | v, Run::of(u / 16, v / 16).and(Run::of(u % 16, v % 16)))
+}
+
 /// Breadth first: both operands are read strictly in sequence.
 fn merge(width: usize, a: &[u8], ra: usize, b: &[u8], rb: usize) -> Merged {
-    let mut queue = vec![0u8; (3 * (ra + rb) + 8) / 4];
+    let mut queue = vec![0u8; (2 * (ra + rb) + 4) / 4 + 5];
     let mut edges = vec![0u8; (ra + rb + 4) / 4];
     let mut ends = [0; MAX_WIDTH];
     let (mut ia, mut ib) = (0, 0);
@@ -528,6 +617,23 @@ fn merge(width: usize, a: &[u8], ra: usize, b: &[u8], rb: usize) -> Merged {
     for end in &mut ends[..width] {
         let level = tail;
         while i < level {
+            if level - i >= 8 && i % 4 == 0 {
+                let j = i / 4;
+                let f = PARTS[usize::from(queue[j])] as usize;
+                let g = PARTS[usize::from(queue[j + 1])] as usize;
+                let (x, y) = (eight(a, ia), eight(b, ib));
+                let (na, nb) = (f & 15, f >> 12 & 15);
+                let (high, h) = merge_four(f, x >> 8, y >> 8);
+                let (low, k) = merge_four(g, x >> (8 - 2 * na) & 0xFF, y >> (8 - 2 * nb) & 0xFF);
+                edges[j..j + 2].copy_from_slice(&[high as u8, low as u8]);
+                let run = h.and(k);
+                append(&mut queue, tail, run);
+                ia += na + (g & 15);
+                ib += nb + (g >> 12 & 15);
+                tail += run.1;
+                i += 8;
+                continue;
+            }
             let flags = record(&queue, i);
             let (mut x, mut y) = (0, 0);
             if flags & 1 != 0 {
@@ -548,27 +654,58 @@ fn merge(width: usize, a: &[u8], ra: usize, b: &[u8], rb: usize) -> Merged {
     Merged { queue, edges, records: i, members: tail - i, ends }
 }
 
-/// The edges under which a member's flags are w: backwards, then without the empty records. Tells how many records are left.
-fn restrict(merged: &Merged, w: u8, out: &mut [u8]) -> usize {
-    let r = merged.records;
+/// The records less the edges under which no member's flags are w, backwards, in the front of the queue.
+fn mark(merged: &mut Merged, w: usize) {
+    let (queue, r) = (&mut merged.queue, merged.records);
     let mut child = r + merged.members;
-    for i in (0..r).rev() {
+    let mut i = r;
+    while i > 0 {
+        let y = usize::from(merged.edges[(i - 1) / 4]);
+        let count = |x: usize| (PARTS[x & 0xFF] & 15) as usize + (PARTS[x & 0xFF] >> 12 & 15) as usize;
+        let edges = count(y);
+        if i % 4 == 0 && child >= i + edges && (child <= r || child - edges >= r) {
+            child -= edges;
+            let entries = eight(queue, child);
+            let test = if child < r { 16 } else { 16 + 4 * w };
+            let half = |x: usize, v: usize| PARTS[usize::from(SPREAD[256 * (x & 15) + (v & 0xFF)])] as usize >> test & 15;
+            let n = count(y >> 4);
+            queue[i / 4 - 1] = (half(y >> 4, entries >> 8) << 4 | half(y & 15, entries >> (8 - 2 * n) & 0xFF)) as u8;
+            i -= 4;
+            continue;
+        }
+        i -= 1;
         let x = record(&merged.edges, i);
         let mut kept = 0;
         for side in [1, 2] {
             if x & side != 0 {
                 child -= 1;
-                let keep = if child < r { record(out, child) > 0 } else { record(&merged.queue, child) == w };
+                let entry = record(queue, child);
+                let keep = if child < r { entry > 0 } else { usize::from(entry) == w };
                 kept |= if keep { side } else { 0 };
             }
         }
-        put_record(out, i, kept);
+        put_record(queue, i, kept);
     }
-    let mut k = 0;
-    for i in 0..r {
-        let x = record(out, i);
-        put_record(out, k, x);
-        k += usize::from(x > 0);
+}
+
+/// The first r records that have an edge, moved together. Tells how many.
+fn compact(queue: &[u8], r: usize, out: &mut [u8]) -> usize {
+    let byte = |x: u8| {
+        let f = PARTS[usize::from(x)] as usize;
+        Run::of(f >> 8 & 15, f >> 4 & 15)
+    };
+    let (mut i, mut k) = (0, 0);
+    while i < r {
+        if r - i >= 16 && i % 4 == 0 && k / 4 + 4 < out.len() {
+            let [a, b, c, d] = queue[i / 4..i / 4 + 4].try_into().unwrap();
+            let run = byte(a).and(byte(b)).and(byte(c).and(byte(d)));
+            append(out, k, run);
+            k += run.1;
+            i += 16;
+        } else {
+            k = push(out, k, record(queue, i));
+            i += 1;
+        }
     }
     for i in k..k.next_multiple_of(4).min(4 * out.len()) {
         put_record(out, i, 0);
@@ -619,8 +756,8 @@ pub fn union(a: &[u8], b: &[u8], out: &mut [u8]) -> Result<usize, u64> {
 }
 
 pub fn difference(a: &[u8], b: &[u8], out: &mut [u8]) -> Result<usize, u64> {
-    let (width, merged) = merged(a, b)?;
-    let mut edges = vec![0; merged.edges.len()];
-    let records = restrict(&merged, 1, &mut edges);
-    finish(width, &edges, records, out)
+    let (width, mut merged) = merged(a, b)?;
+    mark(&mut merged, 1);
+    let records = compact(&merged.queue, merged.records, &mut merged.edges);
+    finish(width, &merged.edges, records, out)
 }

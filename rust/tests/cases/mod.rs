@@ -124,6 +124,11 @@ macro_rules! differential_tests {
         }
 
         #[test]
+        fn joins_where_tables_or_rooms_change() {
+            cases::rounds("joins_where_tables_or_rooms_change", 1, cases::join_limits::<$subject>);
+        }
+
+        #[test]
         fn histories() {
             cases::rounds("histories", 120, |rng| check_history::<$subject>(rng, 60));
         }

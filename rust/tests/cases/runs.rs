@@ -104,6 +104,28 @@ pub fn joins<S: Subject>(rng: &mut Rng) {
     check_join::<S>(rng, &a.lay(), &b.lay());
 }
 
+/// Operands of just so many edge bits or bytes that a join begins to use tables or larger rooms.
+pub fn join_limits<S: Subject>(rng: &mut Rng) {
+    for width in [9, 33, 100] {
+        for records in 254..=258 {
+            let first = rng.between(width, records - width);
+            let [a, b] = [first, records - first].map(|records| set_with_records(rng, width, records).lay());
+            assert_eq!(a.bits() + b.bits(), 2 * records);
+            check_join::<S>(rng, &a, &b);
+        }
+    }
+    let length = |width: usize, bits: usize| 24 + 4 * width + bits.div_ceil(8) + 8 * bits.div_ceil(65_536) + 2 * bits.div_ceil(512);
+    for (width, limit) in [(17, 2_048), (64, 2_048), (20, 16_384), (256, 16_384)] {
+        let bits = (0..).step_by(2).take_while(|bits| length(width, *bits) <= limit).last().unwrap();
+        let [below, above] = [bits, bits + 2].map(|bits| set_with_records(rng, width, bits / 2).lay());
+        assert!(below.encode().len() <= limit && limit < above.encode().len());
+        check_join::<S>(rng, &below, &below);
+        check_join::<S>(rng, &below, &above);
+        check_join::<S>(rng, &above, &below);
+        check_join::<S>(rng, &above, &above);
+    }
+}
+
 /// Where a sub-block, a block or a byte is just filled.
 pub fn boundaries<S: Subject>(rng: &mut Rng) {
     for bits in [510, 512, 514, 1_022, 1_024, 1_026, 4_096, 65_024, 65_534, 65_536, 65_538, 66_048, 131_072, 131_074] {
@@ -169,8 +191,10 @@ pub fn at_the_limit<S: Subject>(rng: &mut Rng) {
         let more = set_with_records(rng, width, 262_141);
         assert_eq!(check_pack::<S>(rng, width as u64, &batch_of(&more)), None);
         // the union passes the limit, the difference does not
-        let half = set_with_records(rng, width, 150_000).lay();
-        check_join::<S>(rng, &laid, &half);
+        for records in [150_000, 262_140] {
+            let other = set_with_records(rng, width, records).lay();
+            check_join::<S>(rng, &laid, &other);
+        }
         let part = Set::new(width, set.keys.iter().filter(|_| rng.one_in(3)).cloned()).lay();
         check_join::<S>(rng, &laid, &part);
         check_join::<S>(rng, &laid, &laid);
