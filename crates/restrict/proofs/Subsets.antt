@@ -74,7 +74,7 @@ marked-edges e {w} {l} {q} {p} {r} {n} h c v =
     rw (v .out, h .records, k) (restrict-edges (e .width) (e .set) f)
     ∙ edges-ext (e .width) (within (e .set) f) (restricted (flagMask w q r) e .set) (λ j g. unfold within in refl)
 
--- ---- Of eitherFlags edge bytes
+-- ---- Of flagged edge bytes
 module _ {m b n : ℕ} {l q : Bytes} (h : Flagged m b n l q) where
   pub flagged-entries : Entries l (b / 2) n
   unfolding count keysOf held followed
