@@ -16,7 +16,7 @@ use Rattle.loes.proofs.Bits.{length-bitsIn}
 use Rattle.build.specs.Writing.{Sealed, Shaped}
 use Rattle.build.proofs.Shape.{held-bits}
 
-bigEndians-ext : (w : ℕ) (f g : ℕ → ℕ) (n : ℕ) → ((i : ℕ) → i < n → f i ≡ g i) → bigEndians w f n ≡ bigEndians w g n
+pub bigEndians-ext : (w : ℕ) (f g : ℕ → ℕ) (n : ℕ) → ((i : ℕ) → i < n → f i ≡ g i) → bigEndians w f n ≡ bigEndians w g n
 unfolding bigEndians
 bigEndians-ext w f g zero h = refl
 bigEndians-ext w f g (suc n) h = ap₂ (λ x y. x ++ bigEndian w y) (bigEndians-ext w f g n (λ i l. h i (omega arith))) (h n (omega arith))

@@ -3,8 +3,8 @@ use mathlib.Core.Path.{_≡_, sym, ap, _∙_}
 use mathlib.Core.List.{[], _∷_, _++_, append-assoc, append-nil}
 use Prim.Native.Nat.{ℕ, _+_, _-_, _*_, _/_, _^_, _≤_, _<_}
 use native.Mathlib.Omega.{arith}
-use lib.ListN.{length, take, drop, length-append, length-drop, drop-of-length-le}
-use lib.Seq.{take-all, take-at, drop-at, drop-drop, drop-append-add}
+use lib.ListN.{length, take, drop, length-append, length-drop, drop-of-length-le, take-append-drop}
+use lib.Seq.{take-all, take-at, drop-at, drop-drop, drop-append-add, length-take-le}
 use native.Mathlib.Numerals.{add-one}
 use native.Mathlib.Nat.{mul-comm}
 use borrow.Rule.Slice.PartMut.{putMid}
@@ -41,6 +41,53 @@ module _ (f g xs zs ys : Bytes) (n : ℕ) (size : length f ≡ n) (done : zs ≡
       let gone : drop (length zs - n) (drop n zs) ≡ [] = ap (drop (length zs - n)) drop-zs ∙ drop-of-length-le (drop (length f) xs) long in
       let wrote : ys ≡ g ++ drop (length f + length g) xs = e ∙ rw (part, drop-drop) in
       rw (before, gone, wrote, append-nil, length-append, append-assoc)
+
+-- behind f come g and h, and h is written first: by a callee that is lent `&mut out[m..]` and leaves vs of it, then g by one that is lent `&mut out[n..]` and leaves ys
+module _ (f g h xs zs vs ys : Bytes) (n m : ℕ) (size : length f ≡ n) (place : length (f ++ g) ≡ m) (done : zs ≡ front f xs) (room : m + length h ≤ length xs)
+    (last : vs ≡ front h (take (length zs - m) (drop m zs))) where
+  -- what stands where g will
+  abbrev p : Bytes
+  p = take (length g) (drop n xs)
+
+  abbrev rest : Bytes
+  rest = drop (m + length h) xs
+
+  size-p : length (f ++ p) ≡ m
+  size-p = omega (arith, place, length-append f g, length-append f p, length-take-le (length g) (drop n xs) (omega (arith, place, length-append f g, length-drop n xs)))
+
+  started-p : zs ≡ front (f ++ p) xs
+  unfolding front
+  started-p =
+      let e : drop n xs ≡ p ++ drop m xs = sym (take-append-drop (length g) (drop n xs)) ∙ ap (λ x. p ++ x) (drop-drop (length g) n xs ∙ ap (λ k. drop k xs) (let z : n + length g ≡ m = omega (arith, place, length-append f g) in z)) in
+      done ∙ ap (λ k. f ++ drop k xs) size ∙ ap (λ x. f ++ x) e ∙ sym (append-assoc f p (drop m xs)) ∙ ap (λ k. (f ++ p) ++ drop k xs) (sym size-p)
+
+  abbrev us : Bytes
+  us = putMid m (length zs - m) zs vs
+
+  wrote-last : us ≡ f ++ (p ++ (h ++ rest))
+  unfolding front
+  wrote-last =
+      behind (f ++ p) h xs zs vs m size-p started-p (omega (arith, size-p)) last
+      ∙ rw (length-append (f ++ p) h, size-p, append-assoc, append-assoc)
+
+  pub long-us : length us ≡ length xs
+  long-us = omega (arith, ap length wrote-last, length-append f (p ++ (h ++ rest)), length-append p (h ++ rest), length-append h rest, length-append f p, size-p, length-drop (m + length h) xs)
+
+  front-us : us ≡ front f us
+  unfolding front
+  front-us = let d : drop n us ≡ p ++ (h ++ rest) = ap (drop n) wrote-last ∙ drop-at f (p ++ (h ++ rest)) n size in wrote-last ∙ rw (size, d)
+
+  room-us : length f + length g ≤ length us
+  room-us = omega (arith, long-us, place, length-append f g)
+
+  pub part-us : length g ≤ length (take (length us - n) (drop n us))
+  part-us = part-room f g us us ys n size front-us room-us
+
+  pub between : ys ≡ front g (take (length us - n) (drop n us)) → putMid n (length us - n) us ys ≡ front ((f ++ g) ++ h) xs
+  unfolding front
+  between e =
+      let d : drop m us ≡ h ++ rest = ap (drop m) (wrote-last ∙ sym (append-assoc f p (h ++ rest))) ∙ drop-at (f ++ p) (h ++ rest) m size-p in
+      behind f g us us ys n size front-us room-us e ∙ rw (place, d, length-append (f ++ g) h, place) (sym (append-assoc (f ++ g) h rest))
 
 -- a number below 2 ^ 32 in 8 bytes has four zeros in front
 pub eight : (n : ℕ) → n < 2 ^ 32 → bigEndian 4 0 ++ bigEndian 4 n ≡ bigEndian 8 n

@@ -1,12 +1,13 @@
 -- What the writer is given and what it answers.
 use mathlib.Core.Path.{_≡_}
 use Prim.Native.Nat.{ℕ, _*_, _≤_, _<_}
+use mathlib.Core.Bool.{Bool}
 use mathlib.Core.List.{List, [], _∷_}
 use lib.ListN.{length, getD}
 use Rattle.loes.specs.Bytes.{Bytes, packBits, bitsIn}
 use Rattle.loes.specs.Edges.{ones}
 use Rattle.loes.specs.Entry.{count}
-use Rattle.loes.specs.Encode.{levelEnd}
+use Rattle.loes.specs.Encode.{levelEnd, blockOnes}
 use Rattle.loes.specs.Held.{held, Holds}
 use Rattle.loes.specs.Model.{refused, wrote, Outcome}
 use Rattle.build.specs.declared.Seen.{Seen}
@@ -27,6 +28,14 @@ pub record Shaped (m b : ℕ) (l ends : List ℕ) (n : ℕ) : Type 0 where
   pub room : m ≤ length ends
   pub levels : (d : ℕ) → d < m → getD ends d 0 ≡ levelEnd (held m b l) d
   pub members : n ≡ count (held m b l)
+
+-- as many blocks as there can be
+abbrev pub maxBlocks : ℕ
+maxBlocks = 8
+
+-- of each of n blocks, the set bits before it
+abbrev pub Based : List Bool → ℕ → List ℕ → Type 0
+Based e n bases = (j : ℕ) → j < n → getD bases j 0 ≡ blockOnes e j
 
 -- what the writer's answer says, with the buffer at exit
 unfoldable pub writtenOutcome : Written → Bytes → Outcome

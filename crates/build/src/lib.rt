@@ -1,4 +1,4 @@
-// The one writer: an encoding from its edge bytes, field behind field.
+// The one writer: an encoding from its edge bytes, each field in the rest of the buffer behind the field before it.
 ghost use Prim.Native.Nat.{ℕ, _+_, _-_, _*_, _/_, _%_, _^_, _<_, _≤_};
 ghost use mathlib.Core.Path.{_≡_};
 ghost use mathlib.Core.List.{[], _∷_, _++_};
@@ -11,12 +11,10 @@ ghost use Rattle.loes.specs.Held.{held, Holds};
 ghost use Rattle.loes.specs.Model.{writes};
 ghost use Rattle.loes.specs.Read.{levelBytes, blockBytes, subBlockBytes, endOf};
 ghost use Rattle.bits.specs.Tables.{Tallies};
-ghost use Rattle.build.specs.Writing.{Sealed, Counts, Shaped, writtenOutcome};
+ghost use Rattle.build.specs.Writing.{Sealed, Counts, Shaped, maxBlocks, Based, writtenOutcome};
 use encoding::Encoding;
 
-// The bytes of a block and of a sub-block, and how many sub-blocks a block has.
-const BLOCK_BYTES: usize = Encoding::BLOCK_BITS / 8;
-
+// The bytes of a sub-block, and how many sub-blocks a block has.
 const SUB_BLOCK_BYTES: usize = Encoding::SUB_BLOCK_BITS / 8;
 
 const SUB_BLOCKS: usize = Encoding::BLOCK_BITS / Encoding::SUB_BLOCK_BITS;
@@ -25,6 +23,9 @@ const SUB_BLOCKS: usize = Encoding::BLOCK_BITS / Encoding::SUB_BLOCK_BITS;
 const BLOCK_REST: usize = Encoding::BLOCK_BITS - 1;
 
 const SUB_BLOCK_REST: usize = Encoding::SUB_BLOCK_BITS - 1;
+
+// As many blocks as there can be.
+const MAX_BLOCKS: usize = (Encoding::MAX_EDGES + BLOCK_REST) / Encoding::BLOCK_BITS;
 
 // A number in 2 bytes at the front of a buffer.
 fn put2(out: &mut [u8], n: usize)
@@ -147,19 +148,18 @@ fn put_levels(out: &mut [u8], m: usize, ends: &[usize])
     }
 }
 
-// Field 5: for each started block, the set bits before it.
-fn put_blocks(out: &mut [u8], edges: &[u8], t: &[u16], b: usize)
-    requires { ⌜ (3 + blockBytes b ≤ length (now out)) × (b ≤ 8 * length (now edges)) × (length (now edges) ≤ maxEdges / 8) × Tallies (now t) ⌝ }
-    ensures { λ _. ⌜ now (out .exit) ≡ front (field 5 (bigEndians 8 (blockOnes (bitsIn (now (edges .entry)) b)) (started blockBits b))) (now (out .entry)) ⌝ }
+// Field 5: for each of so many blocks, the set bits before it.
+fn put_blocks(out: &mut [u8], blocks: usize, bases: &[usize])
+    requires { ⌜ (3 + 8 * blocks ≤ length (now out)) × (blocks ≤ length (now bases)) × (length (now bases) ≤ maxBlocks) ⌝ }
+    requires { ⌜ ((j : ℕ) → j < blocks → getD (now bases) j 0 < 2 ^ 32) ⌝ }
+    ensures { λ _. ⌜ now (out .exit) ≡ front (field 5 (bigEndians 8 (λ (j : ℕ). getD (now (bases .entry)) j 0) blocks)) (now (out .entry)) ⌝ }
 {
-    let blocks = (b + BLOCK_REST) / Encoding::BLOCK_BITS;
     put_head(out, 5, 8 * blocks);
-    let mut seen = Seen { bytes: 0, ones: 0 };
     let mut j = 0;
     while j < blocks {
-        seen = count_to(edges, t, seen, BLOCK_BYTES * j);
+        let n = bases[j];
         let at = 3 + 8 * j;
-        put8(&mut out[at..], seen.ones);
+        put8(&mut out[at..], n);
         j += 1;
     }
 }
@@ -171,10 +171,11 @@ fn block_base(j: usize, base: usize, ones: usize) -> usize
     if j % SUB_BLOCKS == 0 { ones } else { base }
 }
 
-// Field 6: for each started sub-block, the set bits of its block before it.
-fn put_sub_blocks(out: &mut [u8], edges: &[u8], t: &[u16], b: usize)
-    requires { ⌜ (3 + subBlockBytes b ≤ length (now out)) × (b ≤ 8 * length (now edges)) × (length (now edges) ≤ maxEdges / 8) × Tallies (now t) ⌝ }
+// Field 6: for each started sub-block, the set bits of its block before it. The set bits before each block are met on the way.
+fn put_sub_blocks(out: &mut [u8], edges: &[u8], t: &[u16], b: usize, bases: &mut [usize])
+    requires { ⌜ (3 + subBlockBytes b ≤ length (now out)) × (b ≤ 8 * length (now edges)) × (length (now edges) ≤ maxEdges / 8) × Tallies (now t) × (length (now bases) ≡ maxBlocks) ⌝ }
     ensures { λ _. ⌜ now (out .exit) ≡ front (field 6 (bigEndians 2 (subBlockOnes (bitsIn (now (edges .entry)) b)) (started subBlockBits b))) (now (out .entry)) ⌝ }
+    ensures { λ _. ⌜ Based (bitsIn (now (edges .entry)) b) (started blockBits b) (now (bases .exit)) ⌝ }
 {
     let subs = (b + SUB_BLOCK_REST) / Encoding::SUB_BLOCK_BITS;
     put_head(out, 6, 2 * subs);
@@ -185,6 +186,7 @@ fn put_sub_blocks(out: &mut [u8], edges: &[u8], t: &[u16], b: usize)
         seen = count_to(edges, t, seen, SUB_BLOCK_BYTES * j);
         let n = seen.ones;
         base = block_base(j, base, n);
+        bases[j / SUB_BLOCKS] = base;
         let at = 3 + 2 * j;
         put2(&mut out[at..], n - base);
         j += 1;
@@ -219,16 +221,25 @@ fn put_shape(out: &mut [u8], m: usize, n: usize, ends: &[usize])
     put_levels(&mut out[12..], m, ends);
 }
 
-// Fields 4 to 6, each behind the one before it.
+// Room for the set bits before each block.
+fn no_bases() -> [usize; MAX_BLOCKS]
+    ensures { λ r. ⌜ length r ≡ maxBlocks ⌝ }
+{
+    [0usize; MAX_BLOCKS]
+}
+
+// Fields 4 to 6: field 5 last, when what it says is known.
 fn put_edges(out: &mut [u8], edges: &[u8], t: &[u16], b: usize)
     requires { ⌜ (9 + length (now edges) + blockBytes b + subBlockBytes b ≤ length (now out)) × (b ≤ 8 * length (now edges)) × (length (now edges) ≤ maxEdges / 8) × Tallies (now t) ⌝ }
     ensures { λ _. ⌜ now (out .exit) ≡ front ((field 4 (now (edges .entry)) ++ field 5 (bigEndians 8 (blockOnes (bitsIn (now (edges .entry)) b)) (started blockBits b))) ++ field 6 (bigEndians 2 (subBlockOnes (bitsIn (now (edges .entry)) b)) (started subBlockBits b))) (now (out .entry)) ⌝ }
 {
+    let blocks = (b + BLOCK_REST) / Encoding::BLOCK_BITS;
     let at5 = 3 + edges.len();
-    let at6 = at5 + 3 + 8 * ((b + BLOCK_REST) / Encoding::BLOCK_BITS);
+    let at6 = at5 + 3 + 8 * blocks;
+    let mut bases = no_bases();
     put_field(out, 4, edges);
-    put_blocks(&mut out[at5..], edges, t, b);
-    put_sub_blocks(&mut out[at6..], edges, t, b);
+    put_sub_blocks(&mut out[at6..], edges, t, b, &mut bases);
+    put_blocks(&mut out[at5..], blocks, &bases);
 }
 
 // ---- The writer

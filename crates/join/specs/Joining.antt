@@ -1,6 +1,6 @@
 -- Union and difference as one call, and what is known on its way.
 use mathlib.Core.Path.{_≡_}
-use Prim.Native.Nat.{ℕ, _+_, _*_, _<_, _≤_}
+use Prim.Native.Nat.{ℕ, _+_, _*_, _/_, _<_, _≤_}
 use mathlib.Core.Bool.{cond}
 use mathlib.Core.List.{[], _∷_}
 use lib.ListN.{length, take}
@@ -13,7 +13,7 @@ use Rattle.loes.specs.Held.{held}
 use Rattle.loes.specs.Model.{Outcome, refusal, joinTests, writes}
 use Rattle.loes.specs.Calls.{reading}
 use Rattle.encoding.specs.Opened.{Opens}
-use Rattle.merge.specs.Union.{unionOf, Room}
+use Rattle.merge.specs.Union.{unionOf, QueueRoom}
 use Rattle.restrict.specs.Restriction.{differenceOf}
 use Rattle.encoding.specs.declared.Checked.{Checked}
 use Rattle.encoding.specs.declared.Checked.the-variants as checked
@@ -51,6 +51,9 @@ pub record Joined (m k : ℕ) (l : Bytes) : Type 0 where
   pub whole : take (started 8 k) l ≡ packBits (bitsIn l k)
 
 -- the rooms: for encodings of at most so many bytes, and for any two
+abbrev pub tiny : ℕ
+tiny = 512
+
 abbrev pub small : ℕ
 small = 2048
 
@@ -64,15 +67,16 @@ abbrev pub queueFor : ℕ → ℕ
 queueFor n = 4 * n + spare
 
 abbrev pub edgesFor : ℕ → ℕ
-edgesFor n = 2 * n + spare
+edgesFor n = n + spare
 
 abbrev pub largeQueue : ℕ
-largeQueue = 262152
+largeQueue = maxEdges / 2 + spare
 
 abbrev pub largeEdges : ℕ
-largeEdges = 131072
+largeEdges = maxEdges / 8 + spare
 
--- room in a queue and for merged edges, for whatever two encodings of these lengths have
+-- room in a queue, and for the edges of a difference, for whatever two encodings of these lengths have
 pub record Rooms (x y : ℕ) (q l : Bytes) : Type 0 where
-  pub enough : (ba bb : ℕ) → ba ≤ 8 * x → ba ≤ maxEdges → bb ≤ 8 * y → bb ≤ maxEdges → Room ba bb q l
-  pub bounded : length l ≤ largeEdges
+  pub enough : (ba bb : ℕ) → ba ≤ 8 * x → ba ≤ maxEdges → bb ≤ 8 * y → bb ≤ maxEdges → QueueRoom ba bb q × (ba < 8 * length l)
+  pub queue : length q ≤ largeQueue
+  pub edges : length l ≤ largeEdges

@@ -1,5 +1,5 @@
 // Union and difference of two encodings.
-ghost use Prim.Native.Nat.{_+_, _*_, _/_, _≤_};
+ghost use Prim.Native.Nat.{_+_, _*_, _/_, _<_, _≤_};
 ghost use mathlib.Core.Path.{_≡_};
 ghost use mathlib.Core.List.{[], _∷_};
 ghost use lib.ListN.{length};
@@ -11,9 +11,9 @@ ghost use Rattle.bits.specs.Tables.{Tallies};
 ghost use Rattle.build.specs.Writing.{writtenOutcome};
 ghost use Rattle.records.specs.Records.{Written as Collected};
 ghost use Rattle.records.specs.Numbers.{overread};
-ghost use Rattle.records.specs.Tables.{TablesLent};
-ghost use Rattle.merge.specs.Union.{Room};
-ghost use Rattle.join.specs.Joining.{pairOf, Both, joinOf, Joined, small, middle, queueFor, edgesFor, largeQueue, largeEdges, Rooms, joinCall};
+ghost use Rattle.merge.specs.Union.{unionOf, QueueRoom};
+ghost use Rattle.restrict.specs.Restriction.{differenceOf};
+ghost use Rattle.join.specs.Joining.{pairOf, Both, joinOf, Joined, tiny, small, middle, queueFor, edgesFor, largeQueue, largeEdges, Rooms, joinCall};
 use build::Written;
 use encoding::Checked;
 use encoding::Encoding;
@@ -60,69 +60,58 @@ fn open_both(a: &[u8], b: &[u8], t: &[u16]) -> Pair
     pair_of(first, second)
 }
 
-// The edges of the union or the difference of the sets that two edge sequences hold, with tables lent, or none.
-fn edges_with(
-    kind: Join,
-    m: usize,
-    a: &[u8],
-    ba: usize,
-    b: &[u8],
-    bb: usize,
-    spreads: &[u8],
-    parts: &[u32],
-    runs: &[u16],
-    q: &mut [u8],
-    out: &mut [u8],
-) -> usize
+// Filling the tables takes the time of some hundred records, and narrow levels hardly use them: they pay from this many edge bits of both on, and so many more for each level, in a union and in a difference.
+const TABLES_FROM: usize = 256;
+
+const UNION_LEVEL: usize = 16;
+
+const DIFFERENCE_LEVEL: usize = 8;
+
+// The edges of the union of the sets that two edge sequences hold, with tables where they pay.
+fn united(m: usize, a: &[u8], ba: usize, b: &[u8], bb: usize, q: &mut [u8]) -> usize
     requires { ⌜ Holds m ba (now a) × (ba / 2 + overread ≤ 4 * length (now a)) ⌝ }
     requires { ⌜ Holds m bb (now b) × (bb / 2 + overread ≤ 4 * length (now b)) ⌝ }
-    requires { ⌜ TablesLent (now spreads) (now parts) (now runs) ⌝ }
-    requires { ⌜ Room ba bb (now q) (now out) ⌝ }
-    ensures { λ k. ⌜ Collected (edgesOf (joinOf kind (held m ba (now (a .entry))) (held m bb (now (b .entry))))) (now (out .entry)) (now (out .exit)) k ⌝ }
+    requires { ⌜ QueueRoom ba bb (now q) ⌝ }
+    ensures { λ k. ⌜ Collected (edgesOf (unionOf (held m ba (now (a .entry))) (held m bb (now (b .entry))))) (now (q .entry)) (now (q .exit)) k ⌝ }
 {
-    match kind {
-        Join::Union => {
-            let u = merge::merge(m, a, ba, b, bb, spreads, parts, runs, q, out);
-            u.edges
-        }
-        Join::Difference => restrict::subtract(m, a, ba, b, bb, spreads, parts, runs, q, out),
-    }
-}
-
-// From this many edge bits on, filling the tables takes less time than they save.
-const TABLES_FROM: usize = 512;
-
-// The same, with tables where they pay.
-fn joined_edges(
-    kind: Join,
-    m: usize,
-    a: &[u8],
-    ba: usize,
-    b: &[u8],
-    bb: usize,
-    q: &mut [u8],
-    out: &mut [u8],
-) -> usize
-    requires { ⌜ Holds m ba (now a) × (ba / 2 + overread ≤ 4 * length (now a)) ⌝ }
-    requires { ⌜ Holds m bb (now b) × (bb / 2 + overread ≤ 4 * length (now b)) ⌝ }
-    requires { ⌜ Room ba bb (now q) (now out) ⌝ }
-    ensures { λ k. ⌜ Collected (edgesOf (joinOf kind (held m ba (now (a .entry))) (held m bb (now (b .entry))))) (now (out .entry)) (now (out .exit)) k ⌝ }
-{
-    if ba + bb < TABLES_FROM {
-        return edges_with(kind, m, a, ba, b, bb, &[], &[], &[], q, out);
+    if ba + bb < UNION_LEVEL * m + TABLES_FROM {
+        return merge::unite(m, a, ba, b, bb, &[], &[], &[], q);
     }
     let mut spreads = [0; join_tables::SPREAD_ENTRIES];
     let mut parts = [0; join_tables::PART_ENTRIES];
     let mut runs = [0; join_tables::RUN_ENTRIES];
-    join_tables::fill_spread(&mut spreads);
-    join_tables::fill_parts(&mut parts);
-    join_tables::fill_runs(&mut runs);
-    edges_with(kind, m, a, ba, b, bb, &spreads, &parts, &runs, q, out)
+    join_tables::fill(&mut spreads, &mut parts, &mut runs);
+    merge::unite(m, a, ba, b, bb, &spreads, &parts, &runs, q)
+}
+
+// The same of the difference.
+fn subtracted(
+    m: usize,
+    a: &[u8],
+    ba: usize,
+    b: &[u8],
+    bb: usize,
+    q: &mut [u8],
+    edges: &mut [u8],
+) -> usize
+    requires { ⌜ Holds m ba (now a) × (ba / 2 + overread ≤ 4 * length (now a)) ⌝ }
+    requires { ⌜ Holds m bb (now b) × (bb / 2 + overread ≤ 4 * length (now b)) ⌝ }
+    requires { ⌜ QueueRoom ba bb (now q) × (ba < 8 * length (now edges)) ⌝ }
+    ensures { λ k. ⌜ Collected (edgesOf (differenceOf (held m ba (now (a .entry))) (held m bb (now (b .entry))))) (now (edges .entry)) (now (edges .exit)) k ⌝ }
+{
+    if ba + bb < DIFFERENCE_LEVEL * m + TABLES_FROM {
+        return restrict::subtract(m, a, ba, b, bb, &[], &[], &[], q, edges);
+    }
+    let mut spreads = [0; join_tables::SPREAD_ENTRIES];
+    let mut parts = [0; join_tables::PART_ENTRIES];
+    let mut runs = [0; join_tables::RUN_ENTRIES];
+    join_tables::fill(&mut spreads, &mut parts, &mut runs);
+    restrict::subtract(m, a, ba, b, bb, &spreads, &parts, &runs, q, edges)
 }
 
 // Writes the entry that k edge bits hold: 5, then 14.
 fn write_joined(m: usize, k: usize, edges: &[u8], t: &[u16], out: &mut [u8]) -> Written
-    requires { ⌜ Joined m k (now edges) × Tallies (now t) × (length (now edges) ≤ largeEdges) ⌝ }
+    requires { ⌜ Joined m k (now edges) × Tallies (now t) × (length (now edges) ≤ largeQueue) ⌝ }
     ensures { λ r. ⌜ writtenOutcome r (now (out .exit)) ≡ writes [] (held m k (now (edges .entry)) ∷ []) (now (out .entry) ∷ []) .outcome ⌝ }
 {
     if k > Encoding::MAX_EDGES {
@@ -132,7 +121,7 @@ fn write_joined(m: usize, k: usize, edges: &[u8], t: &[u16], out: &mut [u8]) -> 
     build::write(m, k, &edges[..n], t, out)
 }
 
-// Joins with the counting table, a queue and room for the edges lent.
+// Joins with the counting table, a queue and room for the edges of a difference lent.
 fn join_with(
     kind: Join,
     a: &[u8],
@@ -151,44 +140,63 @@ fn join_with(
         Pair::Opened(e, f) => {
             let from = e.edges;
             let other = f.edges;
-            let k = joined_edges(
-                kind,
-                e.width,
-                &a[from..],
-                e.bits,
-                &b[other..],
-                f.bits,
-                q,
-                edges,
-            );
-            write_joined(e.width, k, edges, t, out)
+            match kind {
+                Join::Union => {
+                    let k = united(e.width, &a[from..], e.bits, &b[other..], f.bits, q);
+                    write_joined(e.width, k, q, t, out)
+                }
+                Join::Difference => {
+                    let k = subtracted(e.width, &a[from..], e.bits, &b[other..], f.bits, q, edges);
+                    write_joined(e.width, k, edges, t, out)
+                }
+            }
         }
     }
 }
 
-// ---- Rooms: for the flags that merging pushes, two bits for each edge of both, and for the merged edges. Smaller ones are quicker to clear.
-// Bytes behind them, of which a run put at the end takes at most five.
+// ---- Rooms: a queue for the flags that merging pushes, two bits for each edge of both, and room for the edges of a difference, which are no more than the first's. Small ones are quick to clear.
+// Bytes behind them, of which a run put at the end takes at most eight.
 const SPARE: usize = 64;
 
 // For two encodings of at most this many bytes each.
+const TINY: usize = 512;
+
+const TINY_QUEUE: usize = 4 * TINY + SPARE;
+
+const TINY_EDGES: usize = TINY + SPARE;
+
+// For two of at most this many.
 const SMALL: usize = 2048;
 
 const SMALL_QUEUE: usize = 4 * SMALL + SPARE;
 
-const SMALL_EDGES: usize = 2 * SMALL + SPARE;
+const SMALL_EDGES: usize = SMALL + SPARE;
 
+// For two of at most this many.
 const MIDDLE: usize = 16384;
 
 const MIDDLE_QUEUE: usize = 4 * MIDDLE + SPARE;
 
-const MIDDLE_EDGES: usize = 2 * MIDDLE + SPARE;
+const MIDDLE_EDGES: usize = MIDDLE + SPARE;
 
-// For any two: as many edges as both can have, and as many flags.
-const EDGES: usize = 131072;
+// For any two: as many flags as both can have edges, and as many edges as one.
+const QUEUE: usize = Encoding::MAX_EDGES / 2 + SPARE;
 
-const QUEUE: usize = 2 * EDGES + 8;
+const EDGES: usize = Encoding::MAX_EDGES / 8 + SPARE;
 
 // The rooms, cleared.
+fn tiny_queue() -> [u8; TINY_QUEUE]
+    ensures { λ r. ⌜ length r ≡ queueFor tiny ⌝ }
+{
+    [0; TINY_QUEUE]
+}
+
+fn tiny_edges() -> [u8; TINY_EDGES]
+    ensures { λ r. ⌜ length r ≡ edgesFor tiny ⌝ }
+{
+    [0; TINY_EDGES]
+}
+
 fn small_queue() -> [u8; SMALL_QUEUE]
     ensures { λ r. ⌜ length r ≡ queueFor small ⌝ }
 {
@@ -225,34 +233,47 @@ fn large_edges() -> [u8; EDGES]
     [0; EDGES]
 }
 
-// For two small encodings.
-fn join_small(kind: Join, a: &[u8], b: &[u8], t: &[u16], out: &mut [u8]) -> Written
-    requires { ⌜ (length (now a) ≤ small) × (length (now b) ≤ small) × Tallies (now t) ⌝ }
+// For two tiny encodings. Each of these four makes the counting table and is called at two places, so that it stays a function when compiled: a small join does not touch the stack of a large one.
+fn join_tiny(kind: Join, a: &[u8], b: &[u8], out: &mut [u8]) -> Written
+    requires { ⌜ (length (now a) ≤ tiny) × (length (now b) ≤ tiny) ⌝ }
     ensures { λ r. ⌜ writtenOutcome r (now (out .exit)) ≡ joinCall (joinOf kind) (now (a .entry)) (now (b .entry)) (now (out .entry)) ⌝ }
 {
+    let t = bits::tallies();
+    let mut q = tiny_queue();
+    let mut edges = tiny_edges();
+    join_with(kind, a, b, &t, &mut q, &mut edges, out)
+}
+
+// For two small ones.
+fn join_small(kind: Join, a: &[u8], b: &[u8], out: &mut [u8]) -> Written
+    requires { ⌜ (length (now a) ≤ small) × (length (now b) ≤ small) ⌝ }
+    ensures { λ r. ⌜ writtenOutcome r (now (out .exit)) ≡ joinCall (joinOf kind) (now (a .entry)) (now (b .entry)) (now (out .entry)) ⌝ }
+{
+    let t = bits::tallies();
     let mut q = small_queue();
     let mut edges = small_edges();
-    join_with(kind, a, b, t, &mut q, &mut edges, out)
+    join_with(kind, a, b, &t, &mut q, &mut edges, out)
 }
 
 // For two of middle size.
-fn join_middle(kind: Join, a: &[u8], b: &[u8], t: &[u16], out: &mut [u8]) -> Written
-    requires { ⌜ (length (now a) ≤ middle) × (length (now b) ≤ middle) × Tallies (now t) ⌝ }
+fn join_middle(kind: Join, a: &[u8], b: &[u8], out: &mut [u8]) -> Written
+    requires { ⌜ (length (now a) ≤ middle) × (length (now b) ≤ middle) ⌝ }
     ensures { λ r. ⌜ writtenOutcome r (now (out .exit)) ≡ joinCall (joinOf kind) (now (a .entry)) (now (b .entry)) (now (out .entry)) ⌝ }
 {
+    let t = bits::tallies();
     let mut q = middle_queue();
     let mut edges = middle_edges();
-    join_with(kind, a, b, t, &mut q, &mut edges, out)
+    join_with(kind, a, b, &t, &mut q, &mut edges, out)
 }
 
 // For any two.
-fn join_large(kind: Join, a: &[u8], b: &[u8], t: &[u16], out: &mut [u8]) -> Written
-    requires { ⌜ Tallies (now t) ⌝ }
+fn join_large(kind: Join, a: &[u8], b: &[u8], out: &mut [u8]) -> Written
     ensures { λ r. ⌜ writtenOutcome r (now (out .exit)) ≡ joinCall (joinOf kind) (now (a .entry)) (now (b .entry)) (now (out .entry)) ⌝ }
 {
+    let t = bits::tallies();
     let mut q = large_queue();
     let mut edges = large_edges();
-    join_with(kind, a, b, t, &mut q, &mut edges, out)
+    join_with(kind, a, b, &t, &mut q, &mut edges, out)
 }
 
 // The longer of two lengths.
@@ -262,32 +283,37 @@ fn longer(x: usize, y: usize) -> usize
     if x < y { y } else { x }
 }
 
-// In the rooms that fit.
-fn join_any(kind: Join, a: &[u8], b: &[u8], out: &mut [u8]) -> Written
-    ensures { λ r. ⌜ writtenOutcome r (now (out .exit)) ≡ joinCall (joinOf kind) (now (a .entry)) (now (b .entry)) (now (out .entry)) ⌝ }
-{
-    let t = bits::tallies();
-    let n = longer(a.len(), b.len());
-    if n <= SMALL {
-        return join_small(kind, a, b, &t, out);
-    }
-    if n <= MIDDLE {
-        return join_middle(kind, a, b, &t, out);
-    }
-    join_large(kind, a, b, &t, out)
-}
-
 // ---- The calls
 // The keys in either set, written to the front of a buffer (document 01: fold).
 pub fn union(a: &[u8], b: &[u8], out: &mut [u8]) -> Written
     ensures { λ r. ⌜ writtenOutcome r (now (out .exit)) ≡ unionCall (now (a .entry)) (now (b .entry)) (now (out .entry)) ⌝ }
 {
-    join_any(Join::Union, a, b, out)
+    let n = longer(a.len(), b.len());
+    if n <= TINY {
+        return join_tiny(Join::Union, a, b, out);
+    }
+    if n <= SMALL {
+        return join_small(Join::Union, a, b, out);
+    }
+    if n <= MIDDLE {
+        return join_middle(Join::Union, a, b, out);
+    }
+    join_large(Join::Union, a, b, out)
 }
 
 // The keys in the first set but not in the second (document 01: strike).
 pub fn difference(a: &[u8], b: &[u8], out: &mut [u8]) -> Written
     ensures { λ r. ⌜ writtenOutcome r (now (out .exit)) ≡ differenceCall (now (a .entry)) (now (b .entry)) (now (out .entry)) ⌝ }
 {
-    join_any(Join::Difference, a, b, out)
+    let n = longer(a.len(), b.len());
+    if n <= TINY {
+        return join_tiny(Join::Difference, a, b, out);
+    }
+    if n <= SMALL {
+        return join_small(Join::Difference, a, b, out);
+    }
+    if n <= MIDDLE {
+        return join_middle(Join::Difference, a, b, out);
+    }
+    join_large(Join::Difference, a, b, out)
 }

@@ -1,47 +1,24 @@
 -- Tables filled entry by entry, and rules computed over all entries.
 use mathlib.Core.Path.{_≡_, refl, sym, ap, _∙_}
-use Prim.Native.Nat.{ℕ, zero, suc, _+_, _<_}
+use Prim.Native.Nat.{ℕ, _<_}
 use mathlib.Core.Bool.{Bool, true, false, false≢true}
-use mathlib.Core.List.{List, [], _∷_}
-use native.Mathlib.Omega.{arith}
+use mathlib.Core.List.{List}
 use lib.ListN.{length, getD, set, length-set}
 use lib.Dec.{eqb}
 use lib.Seq.{getD-set-same, getD-set-other}
 use Rattle.loes.proofs.Tests.{yes-eq, eq-yes}
 use Rattle.records.specs.Tables.{Ruled}
-use Rattle.join_tables.specs.Entries.{Filled}
+use Rattle.records.proofs.Computed.{each, each-at}
 
 -- ---- A rule computed
--- n values of f, from i on
-unfoldable pub each : {A : Type 0} → (ℕ → A) → ℕ → ℕ → List A
-each f i zero = []
-each f i (suc n) = f i ∷ each f (suc i) n
-
--- the same at each index from i on
-each-from : {A : Type 0} (f g : ℕ → A) (i n : ℕ) → each f i n ≡ each g i n → (k : ℕ) → k < n → f (i + k) ≡ g (i + k)
-unfolding each
-each-from f g i zero e k h = absurd (omega arith)
-each-from f g i (suc n) e zero h =
-    let z : i + 0 ≡ i = omega arith in
-    let a : f i ≡ g i = cc in
-    rw z a
-each-from f g i (suc n) e (suc k) h =
-    let z : i + suc k ≡ suc i + k = omega arith in
-    let b : each f (suc i) n ≡ each g (suc i) n = cc in
-    rw z (each-from f g (suc i) n b k (omega arith))
-
--- functions whose first n values compute to the same are the same at each of them
-pub each-at : {A : Type 0} (f g : ℕ → A) (n : ℕ) → each f 0 n ≡ each g 0 n → (i : ℕ) → i < n → f i ≡ g i
-each-at f g n e i h = let z : 0 + i ≡ i = omega arith in rw z at (each-from f g 0 n e i h)
-
 -- a table filled with what code says is ruled if code is
 pub ruled : {A : Type 0} (read f : ℕ → A) (code : ℕ → ℕ) (n : ℕ) → each (λ i. read (code i)) 0 n ≡ each f 0 n
-    → (t : List ℕ) → length t ≡ n → Filled code n t → Ruled read f n t
+    → (t : List ℕ) → length t ≡ n → ((i : ℕ) → i < n → getD t i 0 ≡ code i) → Ruled read f n t
 ruled read f code n e t l h = record { size = l; rule = λ i b. ap read (h i b) ∙ each-at (λ i. read (code i)) f n e i b }
 
 -- ---- An entry set
 -- an entry is set to what code says: then each is what code says if it was, or if it is the one
-set-right : (code : ℕ → ℕ) (t : List ℕ) (p v : ℕ) → p < length t → v ≡ code p
+pub set-right : (code : ℕ → ℕ) (t : List ℕ) (p v : ℕ) → p < length t → v ≡ code p
     → (j : ℕ) → ((j ≡ p → ⊥) → getD t j 0 ≡ code j) → getD (set t p v) j 0 ≡ code j
 set-right code t p v h e j k = go (eqb j p) refl
   where
@@ -50,10 +27,6 @@ set-right code t p v h e j k = go (eqb j p) refl
     go false s =
         let n : j ≡ p → ⊥ = λ z. false≢true (sym s ∙ ap (λ x. eqb x p) z ∙ eq-yes p) in
         getD-set-other t p j v 0 n ∙ k n
-
--- one more entry is filled
-pub fill-one : (code : ℕ → ℕ) (t : List ℕ) (n v : ℕ) → n < length t → v ≡ code n → Filled code n t → Filled code (n + 1) (set t n v)
-fill-one code t n v h e f j l = set-right code t n v h e j (λ s. f j (omega arith))
 
 -- the same of four entries
 pub four-right : (code : ℕ → ℕ) (t : List ℕ) (p q r s a b c d : ℕ) → p < length t → q < length t → r < length t → s < length t

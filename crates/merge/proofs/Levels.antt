@@ -5,17 +5,17 @@ use mathlib.Core.Bool.{Bool, true, false}
 use mathlib.Core.List.{List, [], _∷_, _++_, append-nil, append-assoc}
 use native.Mathlib.Omega.{arith}
 use native.Mathlib.Decide.{le-ind}
-use lib.ListN.{length, getD, drop, length-append, List·getD-append}
+use lib.ListN.{length, getD, drop, length-append}
 use lib.Seq.{drop-drop, drop-cons}
 use Rattle.loes.specs.Limits.{maxEdges}
 use Rattle.loes.specs.Bytes.{Bytes, bit, tabulate}
 use Rattle.loes.specs.Edges.{Record}
-use Rattle.loes.proofs.Tree.{length-snoc}
-use Rattle.loes.proofs.Bytes.{length-tabulate, getD-tabulate}
+use Rattle.loes.proofs.Bytes.{length-tabulate, getD-tabulate, append-inj}
 use Rattle.loes.proofs.Bits.{tabulate-add, tabulate-ext}
-use Rattle.records.specs.Records.{Flag, emptyRecord, recordAt, recordsTo, flagAt, flagsTo, flagsFrom, flagIf, nextOf, restOf, firstCount, secondCount, recordsAt}
-use Rattle.records.specs.Numbers.{overread}
+use Rattle.records.specs.Records.{Flag, emptyRecord, recordAt, recordsTo, flagAt, flagsFrom, flagIf, nextOf, restOf, firstCount, secondCount, recordsAt}
+use Rattle.records.specs.Numbers.{overread, overwrite}
 use Rattle.merge.specs.Union.{eitherRecord, childFlags, merged, pushed, recordsFrom, takenRecord, RecordMerged, LevelMerged, LevelRoom, BlockMerged}
+use Rattle.merge.proofs.Single.{length-flags}
 use Rattle.merge.proofs.Spreading.{merged-append, pushed-append, merged-at, pushed-at}
 use Rattle.merge.proofs.Merging.{first-append, second-append}
 
@@ -88,42 +88,57 @@ flags-more q from j n =
     tabulate-add (λ k. flagAt q (from + k)) j n
     ∙ ap (λ l. tabulate (λ k. flagAt q (from + k)) j ++ l) (tabulate-ext (λ k. flagAt q (from + (j + k))) (λ k. flagAt q (from + j + k)) n (λ k h. let z : from + (j + k) ≡ from + j + k = omega arith in rw z))
 
-module _ {a b q o : Bytes} {from ka kb tail : ℕ} where
-  pub level-none : LevelMerged a b q o from ka kb tail (flagsFrom q from 0) q o ka kb tail
+module _ {a b q : Bytes} {from ka kb tail : ℕ} where
+  pub level-none : from ≤ tail → LevelMerged a b q from ka kb tail 0 q ka kb tail
   unfolding flagsFrom tabulate firstCount secondCount pushed merged
-  level-none =
+  level-none h =
       let z : from + 0 ≡ from = omega arith in
       record {
         takena = omega arith;
         takenb = omega arith;
-        queue = sym (append-nil (flagsTo q tail));
-        out = rw z (sym (append-nil (recordsTo o from)));
-        qsize = refl;
-        osize = refl;
+        out = rw z (sym (append-nil (recordsTo q from)));
+        queue = rw z (sym (append-nil (tabulate (λ k. flagAt q (from + k)) (tail - from))));
+        last = omega arith;
+        size = refl;
       }
 
-  module _ (room : LevelRoom a b q o from ka kb tail (flagsFrom q from (tail - from))) (j : ℕ) (more : j < tail - from)
-      {p u : Bytes} {la lb end : ℕ} (v : LevelMerged a b q o from ka kb tail (flagsFrom q from j) p u la lb end) where
-    end-is : end ≡ tail + length (pushed (flagsFrom q from j) (recordsFrom a ka) (recordsFrom b kb))
-    unfolding flagsTo
-    end-is =
-        sym (length-tabulate (flagAt p) end) ∙ ap length (v .queue)
-        ∙ length-append (tabulate (flagAt q) tail) (pushed (flagsFrom q from j) (recordsFrom a ka) (recordsFrom b kb))
-        ∙ ap (λ x. x + length (pushed (flagsFrom q from j) (recordsFrom a ka) (recordsFrom b kb))) (length-tabulate (flagAt q) tail)
+  module _ (room : LevelRoom a b q from ka kb tail (flagsFrom q from (tail - from))) (j : ℕ) (more : j < tail - from)
+      {p : Bytes} {la lb end : ℕ} (v : LevelMerged a b q from ka kb tail j p la lb end) where
+    abbrev fs : List Flag
+    fs = flagsFrom q from j
 
-    -- the flags are still there
-    flag-kept : (i : ℕ) → i < tail → flagAt p i ≡ flagAt q i
-    unfolding flagsTo
-    flag-kept i k =
-        let d : Flag = record { inFirst = false; inSecond = false } in
-        let h : i < end = omega (arith, end-is) in
-        let l : i < length (tabulate (flagAt q) tail) = rw (length-tabulate (flagAt q) tail) k in
-        sym (getD-tabulate (flagAt p) end i d h) ∙ ap (λ x. getD x i d) (v .queue)
-        ∙ List·getD-append (tabulate (flagAt q) tail) (pushed (flagsFrom q from j) (recordsFrom a ka) (recordsFrom b kb)) d i l
-        ∙ getD-tabulate (flagAt q) tail i d k
+    abbrev children : List Flag
+    children = pushed fs (recordsFrom a ka) (recordsFrom b kb)
+
+    end-is : end ≡ tail + length children
+    end-is =
+        let e : end - (from + j) ≡ tail - (from + j) + length children =
+        sym (length-flags p (from + j) (end - (from + j))) ∙ ap length (v .queue) ∙ length-append (flagsFrom q (from + j) (tail - (from + j))) children
+        ∙ ap (λ x. x + length children) (length-flags q (from + j) (tail - (from + j))) in
+        omega (arith, v .last)
+
+    pub tail-le : tail ≤ end
+    tail-le = omega (arith, end-is)
+
+    -- the next n flags are still there, and what is behind them
+    module _ (n : ℕ) (h : j + n ≤ tail - from) where
+      queue-parts : (flagsFrom p (from + j) n ≡ flagsFrom q (from + j) n)
+          × (flagsFrom p (from + j + n) (end - (from + j + n)) ≡ flagsFrom q (from + j + n) (tail - (from + j + n)) ++ children)
+      queue-parts =
+          let x : ℕ = end - (from + j + n) in
+          let y : ℕ = tail - (from + j + n) in
+          let ex : n + x ≡ end - (from + j) = omega (arith, tail-le) in
+          let ey : n + y ≡ tail - (from + j) = omega arith in
+          let e : flagsFrom p (from + j) n ++ flagsFrom p (from + j + n) x ≡ flagsFrom q (from + j) n ++ (flagsFrom q (from + j + n) y ++ children) =
+          sym (flags-more p (from + j) n x) ∙ rw ex (v .queue) ∙ ap (λ l. l ++ children) (rw ey at (flags-more q (from + j) n y))
+          ∙ append-assoc (flagsFrom q (from + j) n) (flagsFrom q (from + j + n) y) children in
+          append-inj (flagsFrom p (from + j) n) (flagsFrom q (from + j) n) (flagsFrom p (from + j + n) x) (flagsFrom q (from + j + n) y ++ children) (length-flags p (from + j) n ∙ sym (length-flags q (from + j) n)) e
 
     flag-same : flagAt p (from + j) ≡ flagAt q (from + j)
-    flag-same = flag-kept (from + j) (omega arith)
+    unfolding flagsFrom tabulate
+    flag-same =
+        let z : from + j + 0 ≡ from + j = omega arith in
+        rw z at (ap (λ l. getD l 0 (record { inFirst = false; inSecond = false })) (queue-parts 1 (omega arith) .0))
 
     -- one record more in each that has one
     next : (la + bit (flagAt q (from + j) .inFirst) ≤ ka + firstCount (flagsFrom q from (tail - from)))
@@ -135,9 +150,9 @@ module _ {a b q o : Bytes} {from ka kb tail : ℕ} where
         (omega (arith, v .takena, first-snoc (tabulate f j) (f j), e .0), omega (arith, v .takenb, second-snoc (tabulate f j) (f j), e .1))
 
     -- there is more behind the next record of each than a window reads, and behind the queue than a run takes
-    pub over : (la + overread ≤ 4 * length a) × (lb + overread ≤ 4 * length b) × (end + overread ≤ 4 * length q)
+    pub over : (la + overread ≤ 4 * length a) × (lb + overread ≤ 4 * length b) × (end + overwrite ≤ 4 * length q)
     over =
-        (omega (arith, next .0, room .first), omega (arith, next .1, room .second), omega (arith, end-is, length-pushed (flagsFrom q from j) (recordsFrom a ka) (recordsFrom b kb), v .takena, v .takenb, next .0, next .1, room .queue))
+        (omega (arith, next .0, room .first), omega (arith, next .1, room .second), omega (arith, end-is, length-pushed fs (recordsFrom a ka) (recordsFrom b kb), v .takena, v .takenb, next .0, next .1, room .queue))
 
     pub taken-le : la + lb ≤ maxEdges
     taken-le = omega (arith, next .0, next .1, room .limit)
@@ -154,13 +169,11 @@ module _ {a b q o : Bytes} {from ka kb tail : ℕ} where
         let g : lb + 1 ≤ kb + secondCount (flagsFrom q from (tail - from)) = rw f at (next .1) in
         omega (arith, room .second)
 
-    pub level-more : {p' u' : Bytes} {la' lb' end' : ℕ} → RecordMerged a b p u (from + j) la lb end p' u' la' lb' end'
-        → LevelMerged a b q o from ka kb tail (flagsFrom q from (j + 1)) p' u' la' lb' end'
-    unfolding flagsFrom tabulate
+    pub level-more : {p' : Bytes} {la' lb' end' : ℕ} → RecordMerged a b p (from + j) la lb end p' la' lb' end' → LevelMerged a b q from ka kb tail (j + 1) p' la' lb' end'
     level-more t =
-        let fs : List Flag = tabulate (λ k. flagAt q (from + k)) j in
         let f : Flag = flagAt q (from + j) in
-        let s : j + 1 ≡ suc j = omega arith in
+        let s : flagsFrom q from (j + 1) ≡ fs ++ f ∷ [] = let z : j + 1 ≡ suc j = omega arith in rw z (unfold flagsFrom tabulate in refl) in
+        let z : from + (j + 1) ≡ from + j + 1 = omega arith in
         let ea : la ≡ ka + firstCount fs = v .takena in
         let eb : lb ≡ kb + secondCount fs = v .takenb in
         let ra : f .inFirst ≡ true → ka + firstCount fs < 4 * length a = λ e. rw ea at (room-first (ap (λ x. x .inFirst) flag-same ∙ e)) in
@@ -169,31 +182,23 @@ module _ {a b q o : Bytes} {from ka kb tail : ℕ} where
         rw (flag-same, ea) (sym (taken-next (f .inFirst) a ka (firstCount fs) ra)) in
         let xb : takenRecord (flagAt p (from + j) .inSecond) b lb ≡ nextOf (f .inSecond) (drop (secondCount fs) (recordsFrom b kb)) =
         rw (flag-same, eb) (sym (taken-next (f .inSecond) b kb (secondCount fs) rb)) in
-        let lf : length fs ≡ j = length-tabulate (λ k. flagAt q (from + k)) j in
-        rw s
         record {
-          takena = t .takena ∙ rw (flag-same, ea, first-snoc fs f) (omega arith);
-          takenb = t .takenb ∙ rw (flag-same, eb, second-snoc fs f) (omega arith);
-          queue = t .queue ∙ rw (xa, xb, v .queue, pushed-snoc fs f, append-assoc);
-          out =
-              let z : from + length (fs ++ f ∷ []) ≡ suc (from + j) = omega (arith, length-snoc fs f) in
-              let w : from + length fs ≡ from + j = omega arith in
-              let y : recordsTo u (from + j) ≡ recordsTo o from ++ merged fs (recordsFrom a ka) (recordsFrom b kb) = rw w at (v .out) in
-              rw z (t .out ∙ rw (xa, xb, y, merged-snoc fs f, append-assoc));
-          qsize = t .qsize ∙ v .qsize;
-          osize = t .osize ∙ v .osize;
+          takena = rw s (t .takena ∙ rw (flag-same, ea, first-snoc fs f) (omega arith));
+          takenb = rw s (t .takenb ∙ rw (flag-same, eb, second-snoc fs f) (omega arith));
+          out = rw (s, z) (t .out ∙ rw (xa, xb, v .out, merged-snoc fs f, append-assoc));
+          queue = rw (s, z) (t .queue ∙ rw (xa, xb, queue-parts 1 (omega arith) .1, pushed-snoc fs f, append-assoc));
+          last = rw z (t .last);
+          size = t .size ∙ v .size;
         }
 
     -- eight records more
-    pub level-block : {p' u' : Bytes} {la' lb' end' : ℕ} (i : ℕ) → 4 * i ≡ from + j → j + 8 ≤ tail - from
-        → BlockMerged a b p u i la lb end p' u' la' lb' end' → LevelMerged a b q o from ka kb tail (flagsFrom q from (j + 8)) p' u' la' lb' end'
-    level-block {u' = u'} i at eight t =
-        let fs : List Flag = flagsFrom q from j in
+    pub level-block : {p' : Bytes} {la' lb' end' : ℕ} (i : ℕ) → 4 * i ≡ from + j → j + 8 ≤ tail - from
+        → BlockMerged a b p i la lb end p' la' lb' end' → LevelMerged a b q from ka kb tail (j + 8) p' la' lb' end'
+    level-block i at eight t =
         let gs : List Flag = flagsFrom q (from + j) 8 in
-        let eg : flagsFrom p (4 * i) 8 ≡ gs = rw at (unfold flagsFrom in tabulate-ext (λ k. flagAt p (from + j + k)) (λ k. flagAt q (from + j + k)) 8 (λ k h. flag-kept (from + j + k) (omega arith))) in
+        let eg : flagsFrom p (4 * i) 8 ≡ gs = rw at (queue-parts 8 eight .0) in
         let ef : flagsFrom q from (j + 8) ≡ fs ++ gs = flags-more q from j 8 in
-        let lf : length fs ≡ j = unfold flagsFrom in length-tabulate (λ k. flagAt q (from + k)) j in
-        let lg : length gs ≡ 8 = unfold flagsFrom in length-tabulate (λ k. flagAt q (from + j + k)) 8 in
+        let lg : length gs ≡ 8 = length-flags q (from + j) 8 in
         let ea : la ≡ ka + firstCount fs = v .takena in
         let eb : lb ≡ kb + secondCount fs = v .takenb in
         let ra : recordsFrom a la ≡ drop (firstCount fs) (recordsFrom a ka) = ap (recordsFrom a) ea ∙ from-add a ka (firstCount fs) in
@@ -202,15 +207,15 @@ module _ {a b q o : Bytes} {from ka kb tail : ℕ} where
         rw eg (merged-at gs a b la lb 8 (omega arith) (omega (arith, over .0)) (omega (arith, over .1)) ∙ ap₂ (merged gs) ra rb) in
         let pu : pushed (flagsFrom p (4 * i) 8) (recordsAt a la 8) (recordsAt b lb 8) ≡ pushed gs (drop (firstCount fs) (recordsFrom a ka)) (drop (secondCount fs) (recordsFrom b kb)) =
         rw eg (pushed-at gs a b la lb 8 (omega arith) (omega (arith, over .0)) (omega (arith, over .1)) ∙ ap₂ (pushed gs) ra rb) in
-        let z : from + length (fs ++ gs) ≡ 4 * i + 8 = omega (arith, length-append fs gs) in
-        let w : from + length fs ≡ 4 * i = omega arith in
-        let y : recordsTo u (4 * i) ≡ recordsTo o from ++ merged fs (recordsFrom a ka) (recordsFrom b kb) = rw w at (v .out) in
-        rw ef
+        let z : from + (j + 8) ≡ 4 * i + 8 = omega arith in
+        let w : from + j + 8 ≡ 4 * i + 8 = omega arith in
+        let y : recordsTo p (4 * i) ≡ recordsTo q from ++ merged fs (recordsFrom a ka) (recordsFrom b kb) = rw at (v .out) in
+        let x : flagsFrom p (4 * i + 8) (end - (4 * i + 8)) ≡ flagsFrom q (4 * i + 8) (tail - (4 * i + 8)) ++ children = rw w at (queue-parts 8 eight .1) in
         record {
-          takena = t .takena ∙ rw (eg, ea, first-append fs gs) (omega arith);
-          takenb = t .takenb ∙ rw (eg, eb, second-append fs gs) (omega arith);
-          queue = t .queue ∙ rw (pu, v .queue, pushed-append fs gs, append-assoc);
-          out = ap (recordsTo u') z ∙ t .out ∙ rw (me, y, merged-append fs gs, append-assoc);
-          qsize = t .qsize ∙ v .qsize;
-          osize = t .osize ∙ v .osize;
+          takena = rw ef (t .takena ∙ rw (eg, ea, first-append fs gs) (omega arith));
+          takenb = rw ef (t .takenb ∙ rw (eg, eb, second-append fs gs) (omega arith));
+          out = rw (ef, z) (t .out ∙ rw (me, y, merged-append fs gs, append-assoc));
+          queue = rw (ef, z) (t .queue ∙ rw (pu, x, pushed-append fs gs, append-assoc));
+          last = rw z (t .last);
+          size = t .size ∙ v .size;
         }

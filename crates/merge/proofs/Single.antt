@@ -1,14 +1,17 @@
 -- One record merged.
 use mathlib.Core.Path.{_≡_, refl, sym, ap, ap₂, _∙_}
-use Prim.Native.Nat.{ℕ, _+_, _*_, _/_, _%_, _<_}
+use Prim.Native.Nat.{ℕ, suc, _+_, _-_, _*_, _/_, _%_, _≤_, _<_}
 use mathlib.Core.Bool.{Bool, true, false, _||_, cond}
-use mathlib.Core.List.{[], _∷_, _++_, map, map-append, append-assoc}
+use mathlib.Core.List.{List, [], _∷_, _++_, map, map-append, append-assoc}
 use native.Mathlib.Omega.{arith}
+use lib.ListN.{length, length-append}
 use lib.Bits.{bitOr}
-use Rattle.loes.specs.Bytes.{Bytes, odd}
+use Rattle.loes.specs.Bytes.{Bytes, odd, tabulate}
 use Rattle.loes.specs.Keys.{filter}
-use Rattle.loes.proofs.Bits.{bit-odd}
-use Rattle.records.specs.Records.{hasEdge, recordOfCode, recordAt, flagAt, flagsTo, flagIf, flagOfRecord, Put, Pushed}
+use Rattle.loes.specs.Edges.{Record}
+use Rattle.loes.proofs.Bytes.{length-tabulate, append-inj}
+use Rattle.loes.proofs.Bits.{bit-odd, tabulate-add, tabulate-ext}
+use Rattle.records.specs.Records.{Flag, hasEdge, recordOfCode, recordAt, recordsTo, flagAt, flagsTo, flagsFrom, flagIf, flagOfRecord, recordOfFlag, Put, Pushed}
 use Rattle.records.proofs.Codes.{cases4, odd-eq, put-more, flags-records}
 use Rattle.merge.specs.Union.{childFlags, eitherRecord, takenRecord, Queued, RecordMerged}
 
@@ -63,18 +66,64 @@ pub flag-odd : (q : Bytes) (i f : ℕ) → recordOfCode f ≡ recordAt q i → (
 unfolding flagAt flagOfRecord recordOfCode
 flag-odd q i f e = (ap (λ r. r .onOne) (sym e), ap (λ r. r .onZero) (sym e))
 
+-- ---- A queue in parts
+records-back : (l : List Record) → map recordOfFlag (map flagOfRecord l) ≡ l
+unfolding flagOfRecord recordOfFlag
+records-back [] = refl
+records-back (r ∷ l) = ap (λ t. r ∷ t) (records-back l)
+
+pub flags-split : (q : Bytes) (i n : ℕ) → flagsTo q (i + n) ≡ flagsTo q i ++ flagsFrom q i n
+unfolding flagsTo flagsFrom
+flags-split q i n = tabulate-add (flagAt q) i n
+
+pub length-flags : (q : Bytes) (i n : ℕ) → length (flagsFrom q i n) ≡ n
+unfolding flagsFrom
+length-flags q i n = length-tabulate (λ k. flagAt q (i + k)) n
+
+pub flags-same : (p q : Bytes) (i n : ℕ) → ((j : ℕ) → i ≤ j → recordAt p j ≡ recordAt q j) → flagsFrom p i n ≡ flagsFrom q i n
+unfolding flagsFrom flagAt
+flags-same p q i n h = tabulate-ext (λ k. flagAt p (i + k)) (λ k. flagAt q (i + k)) n (λ k l. unfold flagAt in ap flagOfRecord (h (i + k) (omega arith)))
+
+-- flags put behind the first n of a queue leave what is before place i, and are behind what is from there on
+module _ {n end : ℕ} {f : List Flag} {q p : Bytes} (w : Queued n f q p end) (i : ℕ) (h : i ≤ n) where
+  queued-end : end ≡ n + length f
+  unfolding flagsTo
+  queued-end = sym (length-tabulate (flagAt p) end) ∙ ap length (w .flags) ∙ length-append (tabulate (flagAt q) n) f ∙ ap (λ x. x + length f) (length-tabulate (flagAt q) n)
+
+  pub queued-le : i ≤ end
+  queued-le = omega (arith, queued-end)
+
+  queued-parts : (flagsTo p i ≡ flagsTo q i) × (flagsFrom p i (end - i) ≡ flagsFrom q i (n - i) ++ f)
+  queued-parts =
+      let y : i + (end - i) ≡ end = omega (arith, queued-le) in
+      let z : i + (n - i) ≡ n = omega arith in
+      let a : flagsTo p end ≡ flagsTo p i ++ flagsFrom p i (end - i) = rw y at (flags-split p i (end - i)) in
+      let b : flagsTo q n ≡ flagsTo q i ++ flagsFrom q i (n - i) = rw z at (flags-split q i (n - i)) in
+      append-inj (flagsTo p i) (flagsTo q i) (flagsFrom p i (end - i)) (flagsFrom q i (n - i) ++ f) (unfold flagsTo in length-tabulate (flagAt p) i ∙ sym (length-tabulate (flagAt q) i))
+      (sym a ∙ w .flags ∙ rw b (append-assoc (flagsTo q i) (flagsFrom q i (n - i)) f))
+
+  pub queued-front : recordsTo p i ≡ recordsTo q i
+  queued-front =
+      sym (records-back (recordsTo p i)) ∙ ap (map recordOfFlag) (sym (flags-records p i) ∙ queued-parts .0 ∙ flags-records q i) ∙ records-back (recordsTo q i)
+
+  pub queued-behind : flagsFrom p i (end - i) ≡ flagsFrom q i (n - i) ++ f
+  queued-behind = queued-parts .1
+
 -- ---- One record merged
-pub step-ok : (a b q o p u : Bytes) (i ka kb tail end f x y z : ℕ) → recordOfCode f ≡ recordAt q i
+pub step-ok : (a b q o p : Bytes) (i ka kb tail end f x y z : ℕ) → i < tail → recordOfCode f ≡ recordAt q i
     → recordOfCode x ≡ takenRecord (odd f) a ka → recordOfCode y ≡ takenRecord (odd (f / 2)) b kb → recordOfCode z ≡ eitherRecord (recordOfCode x) (recordOfCode y)
-    → Put i z o u → Queued tail (childFlags (recordOfCode x) (recordOfCode y)) q p end
-    → RecordMerged a b q o i ka kb tail p u (ka + f % 2) (kb + f / 2 % 2) end
-step-ok a b q o p u i ka kb tail end f x y z ef ex ey ez w k =
+    → Put i z q o → Queued tail (childFlags (recordOfCode x) (recordOfCode y)) o p end
+    → RecordMerged a b q i ka kb tail p (ka + f % 2) (kb + f / 2 % 2) end
+step-ok a b q o p i ka kb tail end f x y z h ef ex ey ez w k =
     let e = flag-odd q i f ef in
+    let s : i + 1 ≡ suc i = omega arith in
+    let l : i + 1 ≤ tail = omega arith in
+    let m : recordsTo o (i + 1) ≡ recordsTo q i ++ recordOfCode z ∷ [] = rw s (put-more q o i z w) in
     record {
       takena = rw (e .0, bit-odd f);
       takenb = rw (e .1, bit-odd (f / 2));
-      queue = k .flags ∙ rw (ex, ey, e .0, e .1);
-      out = put-more o u i z w ∙ rw (ez, ex, ey, e .0, e .1);
-      qsize = k .size;
-      osize = w .size;
+      out = queued-front k (i + 1) l ∙ m ∙ rw (ez, ex, ey, e .0, e .1);
+      queue = queued-behind k (i + 1) l ∙ rw (flags-same o q (i + 1) (tail - (i + 1)) (λ j g. w .other j (λ f. omega arith)), ex, ey, e .0, e .1);
+      last = queued-le k (i + 1) l;
+      size = k .size ∙ w .size;
     }

@@ -1,22 +1,22 @@
 -- A block of flags merged: the records of each are put where its flags are set, then the two go side by side.
 use mathlib.Core.Path.{_≡_, refl, sym, ap, ap₂, _∙_}
-use Prim.Native.Nat.{ℕ, _+_, _-_, _*_, _/_, _%_, _≤_, _<_}
+use Prim.Native.Nat.{ℕ, _+_, _-_, _*_, _/_, _%_, _^_, _≤_, _<_}
 use mathlib.Core.Bool.{Bool, true, false}
 use mathlib.Core.List.{List, [], _∷_, _++_, map, map-append, append-nil, append-assoc}
 use native.Mathlib.Omega.{arith}
 use lib.ListN.{length, getD, take, drop, set, length-set, length-map, length-drop, take-append-drop}
-use lib.Seq.{drop-at, drop-drop, length-take-le}
+use lib.Seq.{drop-at, drop-drop, length-take-le, getD-set-other}
 use lib.Bits.{bitOr, or-lt, or-shr, or-mod}
 use Rattle.loes.specs.Bytes.{Bytes, bit, odd}
 use Rattle.loes.specs.Edges.{Record}
 use Rattle.loes.proofs.Bits.{map-tabulate}
-use Rattle.records.specs.Records.{Flag, emptyRecord, recordOfCode, recordAt, recordsTo, recordsAt, nextOf, restOf, flagAt, flagsTo, flagsFrom, flagIf, flagOfRecord, recordOfFlag, firstCount, secondCount}
-use Rattle.records.specs.Numbers.{recordsOf, bitsOf, Short, Appended}
+use Rattle.records.specs.Records.{Flag, emptyRecord, recordOfCode, recordAt, recordsTo, recordsAt, nextOf, restOf, flagAt, flagsFrom, flagIf, flagOfRecord, recordOfFlag, firstCount, secondCount}
+use Rattle.records.specs.Numbers.{recordsOf, bitsOf, eightOf, Short, Appended}
 use Rattle.records.specs.Tables.{spread, eitherFlags}
-use Rattle.records.proofs.Codes.{odd-eq, length-records, flags-records}
+use Rattle.records.proofs.Codes.{odd-eq, code-at, length-records, flags-records}
 use Rattle.records.proofs.Numbers.{halves, length-run, records-add, byte-run, byte-set, at-add, bytes-more, length-at}
-use Rattle.merge.specs.Union.{eitherRecord, childFlags, merged, pushed, eithers, childrenOf, flagsIn, EightMerged, recordsFrom, BlockMerged}
-use Rattle.merge.proofs.Single.{or-codes}
+use Rattle.merge.specs.Union.{eitherRecord, childFlags, merged, pushed, eithers, childrenOf, flagsIn, EightMerged, Queued, recordsFrom, BlockMerged}
+use Rattle.merge.proofs.Single.{or-codes, flags-same, queued-front, queued-behind, queued-le}
 use Rattle.merge.proofs.Merging.{first-append, second-append}
 
 -- ---- Flags behind flags
@@ -164,13 +164,17 @@ module _ (c d x y : ℕ) where
   G = map flagOfRecord (recordsOf 4 d)
 
   abbrev xs : List Record
-  xs = recordsOf 8 x
+  xs = eightOf x
 
   abbrev ys : List Record
-  ys = recordsOf 8 y
+  ys = eightOf y
 
-  behind : (z n : ℕ) → n ≤ 4 → 4 ≤ length (drop n (recordsOf 8 z))
-  behind z n h = omega (arith, length-drop n (recordsOf 8 z), length-run 8 z)
+  length-eight : (z : ℕ) → length (eightOf z) ≡ 8
+  unfolding eightOf
+  length-eight z = length-run 8 (z / 2 ^ 48)
+
+  behind : (z n : ℕ) → n ≤ 4 → 4 ≤ length (drop n (eightOf z))
+  behind z n h = omega (arith, length-drop n (eightOf z), length-eight z)
 
   pub eight-ok : (f₁ s₁ n₁ m₁ f₂ s₂ n₂ m₂ x₁ y₁ x₂ y₂ u₁ v₁ u₂ v₂ r₁ c₁ r₂ c₂ r e : ℕ)
       → bitsOf 4 f₁ ≡ map (λ (z : Record). z .onOne) (recordsOf 4 c) → bitsOf 4 s₁ ≡ map (λ (z : Record). z .onZero) (recordsOf 4 c)
@@ -180,21 +184,21 @@ module _ (c d x y : ℕ) where
       → recordsOf 4 x₁ ≡ take 4 (drop 0 xs) → recordsOf 4 y₁ ≡ take 4 (drop 0 ys) → recordsOf 4 x₂ ≡ take 4 (drop n₁ xs) → recordsOf 4 y₂ ≡ take 4 (drop m₁ ys)
       → (recordsOf 4 u₁ ≡ spread (bitsOf 4 f₁) (recordsOf 4 x₁)) × (u₁ < 256) → (recordsOf 4 v₁ ≡ spread (bitsOf 4 s₁) (recordsOf 4 y₁)) × (v₁ < 256)
       → (recordsOf 4 u₂ ≡ spread (bitsOf 4 f₂) (recordsOf 4 x₂)) × (u₂ < 256) → (recordsOf 4 v₂ ≡ spread (bitsOf 4 s₂) (recordsOf 4 y₂)) × (v₂ < 256)
-      → recordsOf c₁ r₁ ≡ map recordOfFlag (childrenOf (recordsOf 4 u₁) (recordsOf 4 v₁)) → recordsOf c₂ r₂ ≡ map recordOfFlag (childrenOf (recordsOf 4 u₂) (recordsOf 4 v₂))
-      → recordsOf e r ≡ recordsOf c₁ r₁ ++ recordsOf c₂ r₂ → Short 16 r e
+      → recordsOf (c₁ / 2) r₁ ≡ map recordOfFlag (childrenOf (recordsOf 4 u₁) (recordsOf 4 v₁)) → recordsOf (c₂ / 2) r₂ ≡ map recordOfFlag (childrenOf (recordsOf 4 u₂) (recordsOf 4 v₂))
+      → recordsOf (e / 2) r ≡ recordsOf (c₁ / 2) r₁ ++ recordsOf (c₂ / 2) r₂ → Short 16 r e
       → EightMerged (flagsIn c d) xs ys (bitOr u₁ v₁) (bitOr u₂ v₂) r e (n₁ + n₂) (m₁ + m₂)
   eight-ok f₁ s₁ n₁ m₁ f₂ s₂ n₂ m₂ x₁ y₁ x₂ y₂ u₁ v₁ u₂ v₂ r₁ c₁ r₂ c₂ r e ef₁ es₁ en₁ em₁ ef₂ es₂ en₂ em₂ ex₁ ey₁ ex₂ ey₂ eu₁ ev₁ eu₂ ev₂ er₁ er₂ er short =
-      let hx : 4 ≤ length xs = omega (arith, length-run 8 x) in
-      let hy : 4 ≤ length ys = omega (arith, length-run 8 y) in
+      let hx : 4 ≤ length xs = omega (arith, length-eight x) in
+      let hy : 4 ≤ length ys = omega (arith, length-eight y) in
       let hx₂ : 4 ≤ length (drop n₁ xs) = behind x n₁ (en₁ .1) in
       let hy₂ : 4 ≤ length (drop m₁ ys) = behind y m₁ (em₁ .1) in
       let o₁ : recordsOf 4 (bitOr u₁ v₁) ≡ merged F xs ys =
       either-four u₁ v₁ ∙ ap₂ eithers (eu₁ .0) (ev₁ .0) ∙ four-merged (recordsOf 4 c) (length-run 4 c) f₁ s₁ ef₁ es₁ xs ys x₁ y₁ ex₁ ey₁ hx hy in
       let o₂ : recordsOf 4 (bitOr u₂ v₂) ≡ merged G (drop n₁ xs) (drop m₁ ys) =
       either-four u₂ v₂ ∙ ap₂ eithers (eu₂ .0) (ev₂ .0) ∙ four-merged (recordsOf 4 d) (length-run 4 d) f₂ s₂ ef₂ es₂ (drop n₁ xs) (drop m₁ ys) x₂ y₂ ex₂ ey₂ hx₂ hy₂ in
-      let p₁ : recordsOf c₁ r₁ ≡ map recordOfFlag (pushed F xs ys) =
+      let p₁ : recordsOf (c₁ / 2) r₁ ≡ map recordOfFlag (pushed F xs ys) =
       er₁ ∙ ap (map recordOfFlag) (ap₂ childrenOf (eu₁ .0) (ev₁ .0) ∙ four-pushed (recordsOf 4 c) (length-run 4 c) f₁ s₁ ef₁ es₁ xs ys x₁ y₁ ex₁ ey₁ hx hy) in
-      let p₂ : recordsOf c₂ r₂ ≡ map recordOfFlag (pushed G (drop n₁ xs) (drop m₁ ys)) =
+      let p₂ : recordsOf (c₂ / 2) r₂ ≡ map recordOfFlag (pushed G (drop n₁ xs) (drop m₁ ys)) =
       er₂ ∙ ap (map recordOfFlag) (ap₂ childrenOf (eu₂ .0) (ev₂ .0) ∙ four-pushed (recordsOf 4 d) (length-run 4 d) f₂ s₂ ef₂ es₂ (drop n₁ xs) (drop m₁ ys) x₂ y₂ ex₂ ey₂ hx₂ hy₂) in
       let me : merged F xs ys ++ merged G (drop n₁ xs) (drop m₁ ys) ≡ merged (F ++ G) xs ys = rw (en₁ .0, em₁ .0) (sym (merged-append F G xs ys)) in
       let pe : pushed F xs ys ++ pushed G (drop n₁ xs) (drop m₁ ys) ≡ pushed (F ++ G) xs ys = rw (en₁ .0, em₁ .0) (sym (pushed-append F G xs ys)) in
@@ -224,11 +228,16 @@ flags-back [] = refl
 flags-back (f ∷ l) = ap (λ t. f ∷ t) (flags-back l)
 
 -- a run of flags put behind the first of a queue
-flags-run : {q p : Bytes} {tail c r : ℕ} (l : List Flag) → Appended tail c r q p → recordsOf c r ≡ map recordOfFlag l → flagsTo p (tail + c) ≡ flagsTo q tail ++ l
+flags-run : {q p : Bytes} {tail c r : ℕ} (l : List Flag) → Appended tail c r q p → recordsOf c r ≡ map recordOfFlag l → Queued tail l q p (tail + c)
 flags-run {q} {p} {tail} {c} l w e =
-    flags-records p (tail + c) ∙ ap (map flagOfRecord) (w .records ∙ ap (λ t. recordsTo q tail ++ t) e) ∙ map-append flagOfRecord (recordsTo q tail) (map recordOfFlag l)
-    ∙ ap₂ (λ s t. s ++ t) (sym (flags-records q tail)) (flags-back l)
+    record {
+      flags =
+          flags-records p (tail + c) ∙ ap (map flagOfRecord) (w .records ∙ ap (λ t. recordsTo q tail ++ t) e) ∙ map-append flagOfRecord (recordsTo q tail) (map recordOfFlag l)
+          ∙ ap₂ (λ s t. s ++ t) (sym (flags-records q tail)) (flags-back l);
+      size = w .size;
+    }
 
+-- two bytes set: their records, and those behind them
 two-set : (o : Bytes) (j x y : ℕ) → j + 1 < length o → recordsTo (set (set o j x) (j + 1) y) (4 * j + 8) ≡ recordsTo o (4 * j) ++ (recordsOf 4 x ++ recordsOf 4 y)
 two-set o j x y h =
     let z : 4 * (j + 1) + 4 ≡ 4 * j + 8 = omega arith in
@@ -236,18 +245,27 @@ two-set o j x y h =
     let e : recordsTo (set (set o j x) (j + 1) y) (4 * j + 8) ≡ recordsTo (set o j x) (4 * j + 4) ++ recordsOf 4 y = rw (z, w) at (byte-set (set o j x) (j + 1) y (rw (length-set o j x) h)) in
     e ∙ ap (λ t. t ++ recordsOf 4 y) (byte-set o j x (omega arith)) ∙ append-assoc (recordsTo o (4 * j)) (recordsOf 4 x) (recordsOf 4 y)
 
-pub block-ok : (a b q o p : Bytes) (j ka kb tail c d x y h k r e la lb : ℕ) → j + 1 < length o → c ≡ getD q j 0 → d ≡ getD q (j + 1) 0
-    → recordsOf 8 x ≡ recordsAt a ka 8 → recordsOf 8 y ≡ recordsAt b kb 8 → EightMerged (flagsIn c d) (recordsOf 8 x) (recordsOf 8 y) h k r e la lb → Appended tail e r q p
-    → BlockMerged a b q o j ka kb tail p (set (set o j h) (j + 1) k) (ka + la) (kb + lb) (tail + e)
-block-ok a b q o p j ka kb tail c d x y h k r e la lb room ec ed ex ey v w =
+two-kept : (o : Bytes) (j x y k : ℕ) → 4 * j + 8 ≤ k → recordAt (set (set o j x) (j + 1) y) k ≡ recordAt o k
+two-kept o j x y k h =
+    let e : getD (set (set o j x) (j + 1) y) (k / 4) 0 ≡ getD o (k / 4) 0 =
+    getD-set-other (set o j x) (j + 1) (k / 4) y 0 (λ f. omega arith) ∙ getD-set-other o j (k / 4) x 0 (λ f. omega arith) in
+    code-at (set (set o j x) (j + 1) y) k ∙ rw e (sym (code-at o k))
+
+pub block-ok : (a b q p : Bytes) (j ka kb tail c d x y h k r e la lb : ℕ) → j + 1 < length q → 4 * j + 8 ≤ tail → c ≡ getD q j 0 → d ≡ getD q (j + 1) 0
+    → eightOf x ≡ recordsAt a ka 8 → eightOf y ≡ recordsAt b kb 8 → EightMerged (flagsIn c d) (eightOf x) (eightOf y) h k r e la lb → Appended tail (e / 2) r (set (set q j h) (j + 1) k) p
+    → BlockMerged a b q j ka kb tail p (ka + la) (kb + lb) (tail + e / 2)
+block-ok a b q p j ka kb tail c d x y h k r e la lb room l ec ed ex ey v w =
+    let o : Bytes = set (set q j h) (j + 1) k in
     let f : flagsIn c d ≡ flagsFrom q (4 * j) 8 = ap₂ flagsIn ec ed ∙ sym (flags-bytes q j) in
-    let m : merged (flagsIn c d) (recordsOf 8 x) (recordsOf 8 y) ≡ merged (flagsFrom q (4 * j) 8) (recordsAt a ka 8) (recordsAt b kb 8) = rw (f, ex, ey) in
-    let n : pushed (flagsIn c d) (recordsOf 8 x) (recordsOf 8 y) ≡ pushed (flagsFrom q (4 * j) 8) (recordsAt a ka 8) (recordsAt b kb 8) = rw (f, ex, ey) in
+    let m : merged (flagsIn c d) (eightOf x) (eightOf y) ≡ merged (flagsFrom q (4 * j) 8) (recordsAt a ka 8) (recordsAt b kb 8) = rw (f, ex, ey) in
+    let n : pushed (flagsIn c d) (eightOf x) (eightOf y) ≡ pushed (flagsFrom q (4 * j) 8) (recordsAt a ka 8) (recordsAt b kb 8) = rw (f, ex, ey) in
+    let u : Queued tail (pushed (flagsFrom q (4 * j) 8) (recordsAt a ka 8) (recordsAt b kb 8)) o p (tail + e / 2) =
+    flags-run (pushed (flagsFrom q (4 * j) 8) (recordsAt a ka 8) (recordsAt b kb 8)) w (v .queue ∙ ap (map recordOfFlag) n) in
     record {
       takena = ap (λ t. ka + t) (v .takena ∙ ap firstCount f);
       takenb = ap (λ t. kb + t) (v .takenb ∙ ap secondCount f);
-      queue = flags-run (pushed (flagsFrom q (4 * j) 8) (recordsAt a ka 8) (recordsAt b kb 8)) w (v .queue ∙ ap (map recordOfFlag) n);
-      out = two-set o j h k room ∙ ap (λ t. recordsTo o (4 * j) ++ t) (v .out ∙ m);
-      qsize = w .size;
-      osize = length-set (set o j h) (j + 1) k ∙ length-set o j h;
+      out = queued-front u (4 * j + 8) l ∙ two-set q j h k room ∙ ap (λ t. recordsTo q (4 * j) ++ t) (v .out ∙ m);
+      queue = queued-behind u (4 * j + 8) l ∙ ap (λ t. t ++ pushed (flagsFrom q (4 * j) 8) (recordsAt a ka 8) (recordsAt b kb 8)) (flags-same o q (4 * j + 8) (tail - (4 * j + 8)) (λ i g. two-kept q j h k i g));
+      last = queued-le u (4 * j + 8) l;
+      size = w .size ∙ length-set (set q j h) (j + 1) k ∙ length-set q j h;
     }

@@ -1,16 +1,16 @@
--- Merging: two edge sequences read in step give the edges of the union, and for each member of it in which of the two it is.
+-- Merging: two edge sequences read in step give the edges of the union, and for each member of it in which of the two it is. A queue holds the flags of the records to come; a record takes the place of its flag.
 use mathlib.Core.Path.{_≡_}
-use Prim.Native.Nat.{ℕ, suc, _+_, _*_, _/_, _<_, _≤_}
+use Prim.Native.Nat.{ℕ, _+_, _-_, _*_, _/_, _<_, _≤_}
 use mathlib.Core.Bool.{Bool, _||_, cond}
 use mathlib.Core.List.{List, [], _∷_, _++_, map}
 use lib.ListN.{length, drop}
 use Rattle.loes.specs.Limits.{maxEdges}
-use Rattle.loes.specs.Bytes.{Bytes, bit}
+use Rattle.loes.specs.Bytes.{Bytes, bit, bitsIn}
 use Rattle.loes.specs.Keys.{Key, KeySet, either}
 use Rattle.loes.specs.Edges.{Record}
 use Rattle.loes.specs.Entry.{Entry, keysOf, edgesOf, withSet}
-use Rattle.records.specs.Records.{Flag, emptyRecord, recordAt, recordsTo, recordsAt, nextOf, restOf, flagAt, flagsTo, flagsFrom, flagOfRecord, recordOfFlag, flagIf, firstCount, secondCount, Written}
-use Rattle.records.specs.Numbers.{recordsOf, Short, overread}
+use Rattle.records.specs.Records.{Flag, emptyRecord, recordAt, recordsTo, recordsAt, nextOf, restOf, flagAt, flagsTo, flagsFrom, flagOfRecord, recordOfFlag, flagIf, firstCount, secondCount}
+use Rattle.records.specs.Numbers.{recordsOf, Short, overread, overwrite}
 
 -- ---- On entries
 abbrev pub unionOf : Entry → Entry → Entry
@@ -20,18 +20,17 @@ unionOf e f = withSet e (either (e .set) (f .set))
 unfoldable pub flagOf : KeySet → KeySet → Key → Flag
 flagOf s t k = record { inFirst = s k; inSecond = t k }
 
--- what merging two entries leaves: the union's edges in b bits, and the flags of its n members in order, behind those of its records
-pub record Merged (e f : Entry) (q o p u : Bytes) (b n : ℕ) : Type 0 where
-  pub edges : Written (edgesOf (unionOf e f)) o u b
+-- what merging two entries leaves: the union's edges in the first b bits, and behind them the flags of its n members in order
+pub record Merged (e f : Entry) (q p : Bytes) (b n : ℕ) : Type 0 where
+  pub edges : bitsIn p b ≡ edgesOf (unionOf e f)
   pub flags : flagsFrom p (b / 2) n ≡ map (flagOf (e .set) (f .set)) (keysOf (unionOf e f))
   pub fits : b / 2 + n ≤ 4 * length p
-  pub queue : length p ≡ length q
+  pub size : length p ≡ length q
 
--- room for the flags that merging a and b edges pushes, and for the records that it writes
-pub record Room (a b : ℕ) (q o : Bytes) : Type 0 where
-  pub queue : a + b + 1 + overread ≤ 4 * length q
+-- room for the flags that merging a and b edges pushes
+pub record QueueRoom (a b : ℕ) (q : Bytes) : Type 0 where
+  pub queue : a + b + 1 + overwrite ≤ 4 * length q
   pub small : length q ≤ maxEdges
-  pub out : a + b < 8 * length o
 
 -- ---- On lists of records
 -- the edges of either
@@ -68,10 +67,10 @@ childrenOf (x ∷ xs) (y ∷ ys) = childFlags x y ++ childrenOf xs ys
 unfoldable pub flagsIn : ℕ → ℕ → List Flag
 flagsIn c d = map flagOfRecord (recordsOf 4 c ++ recordsOf 4 d)
 
--- eight flags f merged with the records xs and ys: the union's in two bytes h and k, the flags pushed in a run of c in r, and how many records are taken of each
+-- eight flags f merged with the records xs and ys: the union's in two bytes h and k, the flags pushed in a run of c bits of r, and how many records are taken of each
 pub record EightMerged (f : List Flag) (xs ys : List Record) (h k r c la lb : ℕ) : Type 0 where
   pub out : recordsOf 4 h ++ recordsOf 4 k ≡ merged f xs ys
-  pub queue : recordsOf c r ≡ map recordOfFlag (pushed f xs ys)
+  pub queue : recordsOf (c / 2) r ≡ map recordOfFlag (pushed f xs ys)
   pub short : Short 16 r c
   pub takena : la ≡ firstCount f
   pub takenb : lb ≡ secondCount f
@@ -92,39 +91,38 @@ pub record Queued (n : ℕ) (f : List Flag) (q p : Bytes) (end : ℕ) : Type 0 w
   pub flags : flagsTo p end ≡ flagsTo q n ++ f
   pub size : length p ≡ length q
 
--- one record merged: a b the two edge sequences, q p the queue before and after, o u the output
-pub record RecordMerged (a b q o : Bytes) (i ka kb tail : ℕ) (p u : Bytes) (la lb end : ℕ) : Type 0 where
+-- record i merged in the place of its flag: a b the two edge sequences, q p the queue before and after; its flags are those from place i on
+pub record RecordMerged (a b q : Bytes) (i ka kb tail : ℕ) (p : Bytes) (la lb end : ℕ) : Type 0 where
   pub takena : la ≡ ka + bit (flagAt q i .inFirst)
   pub takenb : lb ≡ kb + bit (flagAt q i .inSecond)
-  pub queue : flagsTo p end ≡ flagsTo q tail ++ childFlags (takenRecord (flagAt q i .inFirst) a ka) (takenRecord (flagAt q i .inSecond) b kb)
-  pub out : recordsTo u (suc i) ≡ recordsTo o i ++ eitherRecord (takenRecord (flagAt q i .inFirst) a ka) (takenRecord (flagAt q i .inSecond) b kb) ∷ []
-  pub qsize : length p ≡ length q
-  pub osize : length u ≡ length o
+  pub out : recordsTo p (i + 1) ≡ recordsTo q i ++ eitherRecord (takenRecord (flagAt q i .inFirst) a ka) (takenRecord (flagAt q i .inSecond) b kb) ∷ []
+  pub queue : flagsFrom p (i + 1) (end - (i + 1)) ≡ flagsFrom q (i + 1) (tail - (i + 1)) ++ childFlags (takenRecord (flagAt q i .inFirst) a ka) (takenRecord (flagAt q i .inSecond) b kb)
+  pub last : i + 1 ≤ end
+  pub size : length p ≡ length q
 
--- the eight flags from byte j on merged
-pub record BlockMerged (a b q o : Bytes) (j ka kb tail : ℕ) (p u : Bytes) (la lb end : ℕ) : Type 0 where
+-- the same of the eight flags from byte j on
+pub record BlockMerged (a b q : Bytes) (j ka kb tail : ℕ) (p : Bytes) (la lb end : ℕ) : Type 0 where
   pub takena : la ≡ ka + firstCount (flagsFrom q (4 * j) 8)
   pub takenb : lb ≡ kb + secondCount (flagsFrom q (4 * j) 8)
-  pub queue : flagsTo p end ≡ flagsTo q tail ++ pushed (flagsFrom q (4 * j) 8) (recordsAt a ka 8) (recordsAt b kb 8)
-  pub out : recordsTo u (4 * j + 8) ≡ recordsTo o (4 * j) ++ merged (flagsFrom q (4 * j) 8) (recordsAt a ka 8) (recordsAt b kb 8)
-  pub qsize : length p ≡ length q
-  pub osize : length u ≡ length o
+  pub out : recordsTo p (4 * j + 8) ≡ recordsTo q (4 * j) ++ merged (flagsFrom q (4 * j) 8) (recordsAt a ka 8) (recordsAt b kb 8)
+  pub queue : flagsFrom p (4 * j + 8) (end - (4 * j + 8)) ≡ flagsFrom q (4 * j + 8) (tail - (4 * j + 8)) ++ pushed (flagsFrom q (4 * j) 8) (recordsAt a ka 8) (recordsAt b kb 8)
+  pub last : 4 * j + 8 ≤ end
+  pub size : length p ≡ length q
 
--- a level merged, of the flags f
-pub record LevelMerged (a b q o : Bytes) (from ka kb tail : ℕ) (f : List Flag) (p u : Bytes) (la lb end : ℕ) : Type 0 where
-  pub takena : la ≡ ka + firstCount f
-  pub takenb : lb ≡ kb + secondCount f
-  pub queue : flagsTo p end ≡ flagsTo q tail ++ pushed f (recordsFrom a ka) (recordsFrom b kb)
-  pub out : recordsTo u (from + length f) ≡ recordsTo o from ++ merged f (recordsFrom a ka) (recordsFrom b kb)
-  pub qsize : length p ≡ length q
-  pub osize : length u ≡ length o
+-- the same of the first n flags from place `from` on: of a level, if they are all
+pub record LevelMerged (a b q : Bytes) (from ka kb tail n : ℕ) (p : Bytes) (la lb end : ℕ) : Type 0 where
+  pub takena : la ≡ ka + firstCount (flagsFrom q from n)
+  pub takenb : lb ≡ kb + secondCount (flagsFrom q from n)
+  pub out : recordsTo p (from + n) ≡ recordsTo q from ++ merged (flagsFrom q from n) (recordsFrom a ka) (recordsFrom b kb)
+  pub queue : flagsFrom p (from + n) (end - (from + n)) ≡ flagsFrom q (from + n) (tail - (from + n)) ++ pushed (flagsFrom q from n) (recordsFrom a ka) (recordsFrom b kb)
+  pub last : from + n ≤ end
+  pub size : length p ≡ length q
 
--- what a level needs: records to take, room for the flags pushed and the records written
-pub record LevelRoom (a b q o : Bytes) (from ka kb tail : ℕ) (f : List Flag) : Type 0 where
+-- what a level of the flags f needs: records to take, and room for the flags pushed
+pub record LevelRoom (a b q : Bytes) (from ka kb tail : ℕ) (f : List Flag) : Type 0 where
   pub order : from ≤ tail
-  pub queue : tail + 2 * (firstCount f + secondCount f) + overread ≤ 4 * length q
+  pub queue : tail + 2 * (firstCount f + secondCount f) + overwrite ≤ 4 * length q
   pub small : length q ≤ maxEdges
-  pub out : tail ≤ 4 * length o
   pub first : ka + firstCount f + overread ≤ 4 * length a
   pub second : kb + secondCount f + overread ≤ 4 * length b
   pub limit : ka + firstCount f + (kb + secondCount f) ≤ maxEdges

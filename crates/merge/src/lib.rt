@@ -1,4 +1,4 @@
-// The edge bytes of a union: two edge sequences merged level by level, eight records at a time.
+// The edge bytes of a union: two edge sequences merged level by level, eight records at a time, in the place of the queue of flags.
 ghost use Prim.Native.Nat.{_+_, _-_, _*_, _/_, _%_, _<_, _≤_};
 ghost use mathlib.Core.Path.{_≡_};
 ghost use mathlib.Core.Bool.{true};
@@ -7,12 +7,12 @@ ghost use lib.ListN.{length};
 ghost use lib.Dec.{ltb};
 ghost use Rattle.loes.specs.Limits.{maxEdges};
 ghost use Rattle.loes.specs.Bytes.{odd, bit};
+ghost use Rattle.loes.specs.Entry.{edgesOf};
 ghost use Rattle.loes.specs.Held.{held, Holds};
-ghost use Rattle.records.specs.Records.{recordOfCode, flagAt, flagsFrom, recordOfFlag};
-ghost use Rattle.records.specs.Numbers.{recordsOf, Short, overread};
+ghost use Rattle.records.specs.Records.{recordOfCode, flagAt, flagsFrom, recordOfFlag, Written};
+ghost use Rattle.records.specs.Numbers.{recordsOf, eightOf, Short, overread, overwrite};
 ghost use Rattle.records.specs.Tables.{Spreads, Parted, Runs, TablesLent};
-ghost use Rattle.merge.specs.Union.{Merged, Room, eitherRecord, childFlags, childrenOf, flagsIn, EightMerged, takenRecord, Queued, RecordMerged, BlockMerged, LevelMerged, LevelRoom};
-use records::Parts;
+ghost use Rattle.merge.specs.Union.{unionOf, Merged, QueueRoom, eitherRecord, childFlags, childrenOf, flagsIn, EightMerged, takenRecord, Queued, RecordMerged, BlockMerged, LevelMerged, LevelRoom};
 use records::Run;
 
 // ---- One record
@@ -53,20 +53,13 @@ pub struct Positions {
     pub tail: usize,
 }
 
-// Record i of the union: the records taken as its flag says, their edges, and a flag for each.
-fn merge_record(
-    a: &[u8],
-    b: &[u8],
-    q: &mut [u8],
-    out: &mut [u8],
-    i: usize,
-    at: Positions,
-) -> Positions
-    requires { ⌜ (i < 4 * length (now q)) × (i < 4 * length (now out)) × (at .tail + 2 ≤ 4 * length (now q)) × (length (now q) ≤ maxEdges) ⌝ }
+// Record i of the union, in the place of its flag: the records taken as the flag says, their edges, and a flag for each.
+fn merge_record(a: &[u8], b: &[u8], q: &mut [u8], i: usize, at: Positions) -> Positions
+    requires { ⌜ (i < at .tail) × (at .tail + 2 ≤ 4 * length (now q)) × (length (now q) ≤ maxEdges) ⌝ }
     requires { ⌜ (flagAt (now q) i .inFirst ≡ true → at .a < 4 * length (now a)) ⌝ }
     requires { ⌜ (flagAt (now q) i .inSecond ≡ true → at .b < 4 * length (now b)) ⌝ }
     requires { ⌜ at .a + at .b ≤ maxEdges ⌝ }
-    ensures { λ r. ⌜ RecordMerged (now (a .entry)) (now (b .entry)) (now (q .entry)) (now (out .entry)) i (at .a) (at .b) (at .tail) (now (q .exit)) (now (out .exit)) (r .a) (r .b) (r .tail) ⌝ }
+    ensures { λ r. ⌜ RecordMerged (now (a .entry)) (now (b .entry)) (now (q .entry)) i (at .a) (at .b) (at .tail) (now (q .exit)) (r .a) (r .b) (r .tail) ⌝ }
 {
     let ia = at.a;
     let ib = at.b;
@@ -75,7 +68,7 @@ fn merge_record(
     let x = record_if(f, a, ia);
     let y = record_if(f / 2, b, ib);
     let z = either_record(x, y);
-    records::put_record(out, i, z);
+    records::put_record(q, i, z);
     let end = push_children(q, tail, x, y);
     let na = ia + (f % 2) as usize;
     let nb = ib + (f / 2 % 2) as usize;
@@ -89,7 +82,7 @@ fn merge_record(
 // The flags that four records of each push.
 fn push_four(t: &[u16], x: usize, y: usize) -> Run
     requires { ⌜ Runs (now t) × (x < 256) × (y < 256) ⌝ }
-    ensures { λ r. ⌜ (recordsOf (r .count) (r .records) ≡ map recordOfFlag (childrenOf (recordsOf 4 x) (recordsOf 4 y))) × Short 8 (r .records) (r .count) ⌝ }
+    ensures { λ r. ⌜ (recordsOf (r .bits / 2) (r .records) ≡ map recordOfFlag (childrenOf (recordsOf 4 x) (recordsOf 4 y))) × Short 8 (r .records) (r .bits) ⌝ }
 {
     let h = records::run_at(t, x / 16, y / 16);
     let g = records::run_at(t, x % 16, y % 16);
@@ -116,7 +109,7 @@ fn merge_eight(
     y: usize,
 ) -> Eight
     requires { ⌜ Spreads (now spreads) × Parted (now parts) × Runs (now runs) ⌝ }
-    ensures { λ r. ⌜ EightMerged (flagsIn c d) (recordsOf 8 x) (recordsOf 8 y) (r .high) (r .low) (r .flags .records) (r .flags .count) (r .first) (r .second) ⌝ }
+    ensures { λ r. ⌜ EightMerged (flagsIn c d) (eightOf x) (eightOf y) (r .high) (r .low) (r .flags .records) (r .flags .bits) (r .first) (r .second) ⌝ }
 {
     let f = records::parts_at(parts, c);
     let g = records::parts_at(parts, d);
@@ -135,7 +128,7 @@ fn merge_eight(
     }
 }
 
-// The eight records of the union from byte j on.
+// The eight records of the union from byte j on, in the place of their flags.
 fn merge_block(
     a: &[u8],
     b: &[u8],
@@ -143,14 +136,13 @@ fn merge_block(
     parts: &[u32],
     runs: &[u16],
     q: &mut [u8],
-    out: &mut [u8],
     j: usize,
     at: Positions,
 ) -> Positions
-    requires { ⌜ (j + 1 < length (now q)) × (j + 1 < length (now out)) × (at .tail + overread ≤ 4 * length (now q)) ⌝ }
-    requires { ⌜ (at .a + overread ≤ 4 * length (now a)) × (at .b + overread ≤ 4 * length (now b)) × (at .a + at .b ≤ maxEdges) × (length (now q) ≤ maxEdges) ⌝ }
+    requires { ⌜ (4 * j + 8 ≤ at .tail) × (at .tail + overwrite ≤ 4 * length (now q)) × (length (now q) ≤ maxEdges) ⌝ }
+    requires { ⌜ (at .a + overread ≤ 4 * length (now a)) × (at .b + overread ≤ 4 * length (now b)) × (at .a + at .b ≤ maxEdges) ⌝ }
     requires { ⌜ Spreads (now spreads) × Parted (now parts) × Runs (now runs) ⌝ }
-    ensures { λ r. ⌜ BlockMerged (now (a .entry)) (now (b .entry)) (now (q .entry)) (now (out .entry)) j (at .a) (at .b) (at .tail) (now (q .exit)) (now (out .exit)) (r .a) (r .b) (r .tail) ⌝ }
+    ensures { λ r. ⌜ BlockMerged (now (a .entry)) (now (b .entry)) (now (q .entry)) j (at .a) (at .b) (at .tail) (now (q .exit)) (r .a) (r .b) (r .tail) ⌝ }
 {
     let ia = at.a;
     let ib = at.b;
@@ -158,13 +150,13 @@ fn merge_block(
     let x = records::window(a, ia);
     let y = records::window(b, ib);
     let e = merge_eight(spreads, parts, runs, q[j], q[j + 1], x, y);
-    out[j] = e.high as u8;
-    out[j + 1] = e.low as u8;
+    q[j] = e.high as u8;
+    q[j + 1] = e.low as u8;
     records::append(q, tail, e.flags);
     Positions {
         a: ia + e.first,
         b: ib + e.second,
-        tail: tail + e.flags.count,
+        tail: tail + e.flags.bits / 2,
     }
 }
 
@@ -197,13 +189,12 @@ fn merge_level(
     parts: &[u32],
     runs: &[u16],
     q: &mut [u8],
-    out: &mut [u8],
     from: usize,
     start: Positions,
 ) -> Positions
-    requires { ⌜ LevelRoom (now a) (now b) (now q) (now out) from (start .a) (start .b) (start .tail) (flagsFrom (now q) from (start .tail - from)) ⌝ }
+    requires { ⌜ LevelRoom (now a) (now b) (now q) from (start .a) (start .b) (start .tail) (flagsFrom (now q) from (start .tail - from)) ⌝ }
     requires { ⌜ TablesLent (now spreads) (now parts) (now runs) ⌝ }
-    ensures { λ r. ⌜ LevelMerged (now (a .entry)) (now (b .entry)) (now (q .entry)) (now (out .entry)) from (start .a) (start .b) (start .tail) (flagsFrom (now (q .entry)) from (start .tail - from)) (now (q .exit)) (now (out .exit)) (r .a) (r .b) (r .tail) ⌝ }
+    ensures { λ r. ⌜ LevelMerged (now (a .entry)) (now (b .entry)) (now (q .entry)) from (start .a) (start .b) (start .tail) (start .tail - from) (now (q .exit)) (r .a) (r .b) (r .tail) ⌝ }
 {
     let end = start.tail;
     let to = blocks_end(spreads.len(), end);
@@ -211,10 +202,10 @@ fn merge_level(
     let mut i = from;
     while i < end {
         if has_block(i, to) {
-            at = merge_block(a, b, spreads, parts, runs, q, out, i / 4, at);
+            at = merge_block(a, b, spreads, parts, runs, q, i / 4, at);
             i += BLOCK;
         } else {
-            at = merge_record(a, b, q, out, i, at);
+            at = merge_record(a, b, q, i, at);
             i += 1;
         }
     }
@@ -228,13 +219,13 @@ fn root_flag(n: usize) -> u8
     if n > 0 { 1 } else { 0 }
 }
 
-// The edge bits of a union, and its members, whose flags stand behind those of its records.
+// The edge bits of a union, and its members, whose flags stand behind its records.
 pub struct Joined {
     pub edges: usize,
     pub members: usize,
 }
 
-// The edges of the union of two sets of m bits, and which of the two has each member.
+// The edges of the union of two sets of m bits, and which of the two has each member, in the queue.
 pub fn merge(
     m: usize,
     a: &[u8],
@@ -245,13 +236,12 @@ pub fn merge(
     parts: &[u32],
     runs: &[u16],
     q: &mut [u8],
-    out: &mut [u8],
 ) -> Joined
     requires { ⌜ Holds m ba (now a) × (ba / 2 + overread ≤ 4 * length (now a)) ⌝ }
     requires { ⌜ Holds m bb (now b) × (bb / 2 + overread ≤ 4 * length (now b)) ⌝ }
     requires { ⌜ TablesLent (now spreads) (now parts) (now runs) ⌝ }
-    requires { ⌜ Room ba bb (now q) (now out) ⌝ }
-    ensures { λ r. ⌜ Merged (held m ba (now (a .entry))) (held m bb (now (b .entry))) (now (q .entry)) (now (out .entry)) (now (q .exit)) (now (out .exit)) (r .edges) (r .members) ⌝ }
+    requires { ⌜ QueueRoom ba bb (now q) ⌝ }
+    ensures { λ r. ⌜ Merged (held m ba (now (a .entry))) (held m bb (now (b .entry))) (now (q .entry)) (now (q .exit)) (r .edges) (r .members) ⌝ }
 {
     let c = root_flag(ba) + root_flag(bb) * 2;
     let t = records::push(q, 0, c);
@@ -264,12 +254,35 @@ pub fn merge(
     let mut d = 0;
     while d < m {
         let end = at.tail;
-        at = merge_level(a, b, spreads, parts, runs, q, out, from, at);
+        at = merge_level(a, b, spreads, parts, runs, q, from, at);
         from = end;
         d += 1;
     }
     let n = at.tail - from;
     let edges = 2 * from;
-    records::seal(out, from);
     Joined { edges, members: n }
+}
+
+// The edges of the union alone, and what is left of their last byte cleared: how many bits they are.
+pub fn unite(
+    m: usize,
+    a: &[u8],
+    ba: usize,
+    b: &[u8],
+    bb: usize,
+    spreads: &[u8],
+    parts: &[u32],
+    runs: &[u16],
+    q: &mut [u8],
+) -> usize
+    requires { ⌜ Holds m ba (now a) × (ba / 2 + overread ≤ 4 * length (now a)) ⌝ }
+    requires { ⌜ Holds m bb (now b) × (bb / 2 + overread ≤ 4 * length (now b)) ⌝ }
+    requires { ⌜ TablesLent (now spreads) (now parts) (now runs) ⌝ }
+    requires { ⌜ QueueRoom ba bb (now q) ⌝ }
+    ensures { λ k. ⌜ Written (edgesOf (unionOf (held m ba (now (a .entry))) (held m bb (now (b .entry))))) (now (q .entry)) (now (q .exit)) k ⌝ }
+{
+    let u = merge(m, a, ba, b, bb, spreads, parts, runs, q);
+    let k = u.edges;
+    records::seal(q, k / 2);
+    k
 }

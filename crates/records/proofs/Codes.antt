@@ -8,13 +8,15 @@ use native.Mathlib.Decide.{ℕ-discrete}
 use lib.ListN.{length, getD, set, length-set}
 use lib.Seq.{getD-set-same, getD-set-other}
 use lib.Dec.{eqb}
+use lib.Bits.{bitAnd, bitOr}
 use Rattle.loes.specs.Bytes.{Bytes, bit, odd, bitAt, bitsIn, tabulate}
 use Rattle.loes.specs.Keys.{filter}
 use Rattle.loes.specs.Edges.{Record, recordBits}
 use Rattle.loes.proofs.Lists.{bits-append}
 use Rattle.loes.proofs.Bytes.{length-tabulate}
 use Rattle.loes.proofs.Bits.{tabulate-ext, map-tabulate}
-use Rattle.records.specs.Records.{hasEdge, recordOfCode, recordAt, recordsTo, flagAt, flagsTo, isFlag, withRecord, Put, Pushed, flagOfRecord}
+use Rattle.records.proofs.Computed.{each, each-at}
+use Rattle.records.specs.Records.{hasEdge, recordOfCode, codeIn, recordAt, recordsTo, flagAt, flagsTo, isFlag, withRecord, Put, Pushed, flagOfRecord}
 
 pub cases4 : (P : ℕ → Type 0) → P 0 → P 1 → P 2 → P 3 → (x : ℕ) → x < 4 → P x
 cases4 P a b c d zero h = a
@@ -44,10 +46,7 @@ flag-code x w q j h e =
     rw (← e)
     (unfold recordOfCode odd in cases4 (λ x. eqb (bit (recordOfCode x .onOne) + bit (recordOfCode x .onZero) * 2) w ≡ eqb x w) refl refl refl refl x h)
 
--- ---- Record k of a byte, as a number
-unfoldable pub codeIn : ℕ → ℕ → ℕ
-codeIn x k = x / 2 ^ (6 - 2 * k) % 4
-
+-- ---- Records of a byte
 pub code-at : (l : Bytes) (i : ℕ) → recordAt l i ≡ recordOfCode (codeIn (getD l (i / 4) 0) (i % 4))
 unfolding recordAt recordOfCode bitAt codeIn
 code-at l i =
@@ -64,14 +63,14 @@ code-at l i =
     (record-eq (odd-eq _ _ (omega arith)) (odd-eq _ _ (omega arith)))
     (i % 4) (omega arith))
 
--- as the shifts of a byte give it
-abbrev Shifted : ℕ → ℕ → ℕ → Type 0
-Shifted x z p = (x / p % 4 * p % 256 ≤ x) × (x - x / p % 4 * p % 256 + z * p % 256 < 256) × (x - x / p % 4 * p % 256 + z * p % 256 ≡ x - x / p % 4 * p + z * p)
-
-pub shifted : (x k z : ℕ) → x < 256 → k < 4 → z < 4 → Shifted x z (2 ^ (6 - 2 * k))
-shifted x k z h i l =
-    cases4 (λ k. Shifted x z (2 ^ (6 - 2 * k))) (omega arith, omega arith, omega arith) (omega arith, omega arith, omega arith) (omega arith, omega arith, omega arith)
-    (omega arith, omega arith, omega arith) k i
+-- as the mask of a byte gives it: computed for all bytes x, places k and codes z, entry 16·x + 4·k + z
+pub masked : (x k z : ℕ) → x < 256 → k < 4 → z < 4 → bitOr (bitAnd x (255 - 3 * 2 ^ (6 - 2 * k) % 256)) (z * 2 ^ (6 - 2 * k) % 256) ≡ withRecord x k z
+unfolding each withRecord
+masked x k z h i l =
+    let a : (16 * x + 4 * k + z) / 16 ≡ x = omega arith in
+    let b : (16 * x + 4 * k + z) / 4 % 4 ≡ k = omega arith in
+    let c : (16 * x + 4 * k + z) % 4 ≡ z = omega arith in
+    rw (a, b, c) at (each-at (λ i. bitOr (bitAnd (i / 16) (255 - 3 * 2 ^ (6 - 2 * (i / 4 % 4)) % 256)) (i % 4 * 2 ^ (6 - 2 * (i / 4 % 4)) % 256)) (λ i. withRecord (i / 16) (i / 4 % 4) (i % 4)) 4096 refl (16 * x + 4 * k + z) (omega arith))
 
 code-here : (x z k : ℕ) → k < 4 → z < 4 → codeIn (withRecord x k z) k ≡ z
 unfolding codeIn withRecord

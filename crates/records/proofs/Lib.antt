@@ -1,3 +1,4 @@
+pub mod Computed
 pub mod Codes
 pub mod Sealing
 pub mod Numbers

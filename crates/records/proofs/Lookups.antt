@@ -1,13 +1,14 @@
 -- What the rule of a table says of one entry.
 use mathlib.Core.Path.{_≡_, ap}
+use mathlib.Core.Bool.{true}
 use Prim.Native.Nat.{ℕ, _+_, _*_, _/_, _%_, _^_, _≤_, _<_}
 use mathlib.Core.List.{List, [], _∷_, map}
 use native.Mathlib.Omega.{arith}
 use lib.ListN.{length, getD, length-map}
-use lib.Dec.{ltb}
+use lib.Dec.{ltb, eqb}
 use Rattle.loes.specs.Bytes.{Bytes}
 use Rattle.loes.specs.Edges.{Record}
-use Rattle.loes.proofs.Tests.{both, yes-lt}
+use Rattle.loes.proofs.Tests.{yes-lt, yes-eq}
 use Rattle.loes.proofs.Tree.{bit-le}
 use Rattle.records.specs.Records.{Flag, flagOfRecord, recordOfFlag, firstCount, secondCount}
 use Rattle.records.specs.Numbers.{recordsOf, bitsOf, Short}
@@ -64,14 +65,16 @@ module _ {t : List ℕ} (p : Parted t) (x : ℕ) (h : x < 256) where
       cases4 (λ w. bitsOf 4 (getD t x 0 / 2 ^ (16 + 4 * w) % 16) ≡ map (keptBy w) (recordsOf 4 x)) (ap (λ k. k .kept0) e) (ap (λ k. k .kept1) e) (ap (λ k. k .kept2) e) (ap (λ k. k .kept3) e) w l
 
 -- ---- Runs
-run-facts : (h : ℕ) (l : List Flag) → runIn h ≡ runOf l → (recordsOf (h / 256) (h % 256) ≡ map recordOfFlag l) × Short 4 (h % 256) (h / 256)
+run-facts : (h : ℕ) (l : List Flag) → runIn h ≡ runOf l → (recordsOf (h / 256 / 2) (h % 256) ≡ map recordOfFlag l) × Short 4 (h % 256) (h / 256)
 unfolding runIn runOf
 run-facts h l e =
-    let b = both (ltb (h % 256) (2 ^ (2 * (h / 256)))) (ltb (h / 256) 5) (ap (λ r. r .small) e) in
-    (ap (λ r. r .records) e, (yes-lt (h % 256) (2 ^ (2 * (h / 256))) (b .0), omega (arith, yes-lt (h / 256) 5 (b .1))))
+    let f : ltb (h % 256) (2 ^ (h / 256)) ≡ true = ap (λ r. r .fits) e in
+    let g : ltb (h / 256) 9 ≡ true = ap (λ r. r .few) e in
+    let w : eqb (2 * (h / 256 / 2)) (h / 256) ≡ true = ap (λ r. r .whole) e in
+    (ap (λ r. r .records) e, (yes-lt (h % 256) (2 ^ (h / 256)) f, omega (arith, yes-lt (h / 256) 9 g), yes-eq (2 * (h / 256 / 2)) (h / 256) w))
 
 pub run-told : {t : List ℕ} → Runs t → (x y : ℕ) → x < 16 → y < 16
-    → (recordsOf (getD t (16 * x + y) 0 / 256) (getD t (16 * x + y) 0 % 256) ≡ map recordOfFlag (eitherFlags (bitsOf 4 x) (bitsOf 4 y))) × Short 4 (getD t (16 * x + y) 0 % 256) (getD t (16 * x + y) 0 / 256)
+    → (recordsOf (getD t (16 * x + y) 0 / 256 / 2) (getD t (16 * x + y) 0 % 256) ≡ map recordOfFlag (eitherFlags (bitsOf 4 x) (bitsOf 4 y))) × Short 4 (getD t (16 * x + y) 0 % 256) (getD t (16 * x + y) 0 / 256)
 run-told {t} p x y hx hy =
     let q : (16 * x + y) / 16 ≡ x = omega arith in
     let r : (16 * x + y) % 16 ≡ y = omega arith in

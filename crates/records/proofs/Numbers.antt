@@ -3,18 +3,19 @@ use mathlib.Core.Path.{_≡_, refl, sym, ap, ap₂, _∙_}
 use Prim.Native.Nat.{ℕ, zero, suc, _+_, _-_, _*_, _/_, _%_, _^_, _≤_, _<_}
 use mathlib.Core.List.{List, _++_, append-nil, append-assoc}
 use native.Mathlib.Omega.{arith}
+use native.Mathlib.Decide.{ℕ-discrete}
 use native.Mathlib.Nat.{pow-suc, suc-mul, mul-le-mul-right, mod-lt}
 use lib.ListN.{length, getD, set, take, drop, length-set, length-append}
 use lib.Seq.{getD-set-same, getD-set-other, take-at, drop-at}
-use lib.Pow.{pow-pos, pow-mono, pow-add, shr-lt, shl-lt, shl-exact, split}
+use lib.Pow.{pow-pos, pow-mono, pow-add, shr-lt, shl-exact, split}
 use Rattle.loes.specs.Bytes.{Bytes, tabulate}
 use Rattle.loes.specs.Edges.{Record}
 use Rattle.loes.proofs.Tree.{length-snoc}
 use Rattle.loes.proofs.Bytes.{append-inj, length-tabulate}
 use Rattle.loes.proofs.Bits.{tabulate-add, tabulate-ext}
-use Rattle.records.specs.Records.{recordOfCode, recordAt, recordsTo, recordsAt}
-use Rattle.records.specs.Numbers.{recordsOf, Appended}
-use Rattle.records.proofs.Codes.{codeIn, code-at, records-same, length-records}
+use Rattle.records.specs.Records.{recordOfCode, codeIn, recordAt, recordsTo, recordsAt}
+use Rattle.records.specs.Numbers.{recordsOf, eightOf, Short, Appended}
+use Rattle.records.proofs.Codes.{cases4, code-at, records-same, length-records}
 
 -- ---- Runs one behind the other
 pow-four : (n : ℕ) → 2 ^ (2 * suc n) ≡ 4 * 2 ^ (2 * n)
@@ -68,19 +69,23 @@ cat-lt {a} {w} j k h l =
     let g : suc a * 2 ^ k ≡ a * 2 ^ k + 2 ^ k = suc-mul a (2 ^ k) in
     omega arith
 
--- two runs of at most eight
-pub run-ok : (h m g n : ℕ) → h < 2 ^ (2 * m) → m ≤ 8 → g < 2 ^ (2 * n) → n ≤ 8
-    → (h * 2 ^ (2 * n) % 2 ^ 64 ≡ h * 2 ^ (2 * n)) × (h * 2 ^ (2 * n) + g < 2 ^ (2 * (m + n)))
-run-ok h m g n a b c d =
-    let z : 2 * (m + n) ≡ 2 * m + 2 * n = omega arith in
-    (shl-exact (2 * m) (2 * n) 64 a (omega arith), rw z (cat-lt (2 * m) (2 * n) a c))
+-- two runs of at most eight records
+pub run-ok : (h m g n : ℕ) → Short 8 h m → Short 8 g n → (h * 2 ^ n % 2 ^ 64 ≡ h * 2 ^ n) × (h * 2 ^ n + g < 2 ^ (m + n))
+run-ok h m g n a c = (shl-exact m n 64 (a .0) (omega (arith, a .1, c .1)), cat-lt m n (a .0) (c .0))
 
-pub run-sum : (h m g n : ℕ) → h < 2 ^ (2 * m) → m ≤ 8 → g < 2 ^ (2 * n) → n ≤ 8 → h * 2 ^ (2 * n) % 2 ^ 64 + g < 2 ^ 64
-run-sum h m g n a b c d =
-    let k = run-ok h m g n a b c d in
-    let o : 2 * (m + n) ≤ 32 = omega arith in
-    let l : 2 ^ (2 * (m + n)) ≤ 2 ^ 32 = pow-mono {j = 32} o in
+pub run-sum : (h m g n : ℕ) → Short 8 h m → Short 8 g n → h * 2 ^ n % 2 ^ 64 + g < 2 ^ 64
+run-sum h m g n a c =
+    let k = run-ok h m g n a c in
+    let o : m + n ≤ 32 = omega (arith, a .1, c .1) in
+    let l : 2 ^ (m + n) ≤ 2 ^ 32 = pow-mono {j = 32} o in
     rw (k .0) (omega (arith, k .1))
+
+pub run-cat : (h m g n : ℕ) → Short 8 h m → Short 8 g n → recordsOf ((m + n) / 2) (h * 2 ^ n + g) ≡ recordsOf (m / 2) h ++ recordsOf (n / 2) g
+run-cat h m g n a c =
+    let z : (m + n) / 2 ≡ m / 2 + n / 2 = omega (arith, a .2, c .2) in
+    let f : 2 * (n / 2) ≡ n = c .2 in
+    let l : g < 2 ^ (2 * (n / 2)) = rw f (c .0) in
+    rw z (rw f at (cat (m / 2) (n / 2) h g l))
 
 -- ---- The four records of a byte
 at-byte : (l : Bytes) (j k : ℕ) → k < 4 → recordAt l (4 * j + k) ≡ recordOfCode (codeIn (getD l j 0) k)
@@ -147,9 +152,9 @@ sixteen l j a b c d ea eb ec ed hb hc hd =
     cat 12 4 (a * 65536 + b * 256 + c) d hd ∙ ap₂ (λ s t. s ++ t) (rw z at e3) (ap (recordsOf 4) ed) ∙ sym (bytes-more l j 3) in
     rw y at e4
 
-pub window-ok : (l : Bytes) (i a b c d : ℕ) → a ≡ getD l (i / 4) 0 → b ≡ getD l (i / 4 + 1) 0 → c ≡ getD l (i / 4 + 2) 0 → d ≡ getD l (i / 4 + 3) 0 → b < 256 → c < 256 → d < 256
+eight-at : (l : Bytes) (i a b c d : ℕ) → a ≡ getD l (i / 4) 0 → b ≡ getD l (i / 4 + 1) 0 → c ≡ getD l (i / 4 + 2) 0 → d ≡ getD l (i / 4 + 3) 0 → b < 256 → c < 256 → d < 256
     → recordsOf 8 ((a * 16777216 + b * 65536 + c * 256 + d) / 2 ^ (16 - 2 * (i % 4)) % 65536) ≡ recordsAt l i 8
-window-ok l i a b c d ea eb ec ed hb hc hd =
+eight-at l i a b c d ea eb ec ed hb hc hd =
     let j : ℕ = i / 4 in
     let r : ℕ = i % 4 in
     let s : ℕ = 8 - r in
@@ -165,9 +170,19 @@ window-ok l i a b c d ea eb ec ed hb hc hd =
     (length-run r (x / 2 ^ (2 * s) / 2 ^ (2 * 8)) ∙ sym (length-at l (4 * j) r)) (sym (thirds r 8 s x) ∙ e ∙ f) .1 in
     rw z (append-inj (recordsOf 8 (x / 2 ^ (2 * s) % 2 ^ (2 * 8))) (recordsAt l i 8) (recordsOf s (x % 2 ^ (2 * s))) (recordsAt l (4 * j + (r + 8)) s) (length-run 8 (x / 2 ^ (2 * s) % 2 ^ (2 * 8)) ∙ sym (length-at l i 8)) g .0)
 
+-- moved to the upper bits of a word
+word-up : (x k : ℕ) → k < 4 → x * 2 ^ (32 + 2 * k) % 2 ^ 64 / 2 ^ 48 ≡ x / 2 ^ (16 - 2 * k) % 65536
+word-up x k h = cases4 (λ k. x * 2 ^ (32 + 2 * k) % 2 ^ 64 / 2 ^ 48 ≡ x / 2 ^ (16 - 2 * k) % 65536) (omega arith) (omega arith) (omega arith) (omega arith) k h
+
+pub window-ok : (l : Bytes) (i a b c d : ℕ) → a ≡ getD l (i / 4) 0 → b ≡ getD l (i / 4 + 1) 0 → c ≡ getD l (i / 4 + 2) 0 → d ≡ getD l (i / 4 + 3) 0 → b < 256 → c < 256 → d < 256
+    → eightOf ((a * 16777216 + b * 65536 + c * 256 + d) * 2 ^ (32 + 2 * (i % 4)) % 2 ^ 64) ≡ recordsAt l i 8
+unfolding eightOf
+window-ok l i a b c d ea eb ec ed hb hc hd =
+    rw (word-up (a * 16777216 + b * 65536 + c * 256 + d) (i % 4) (omega arith)) (eight-at l i a b c d ea eb ec ed hb hc hd)
+
 -- four records behind the first n of eight
-pub four-in-ok : (x n : ℕ) → n ≤ 4 → recordsOf 4 (x / 2 ^ (8 - 2 * n) % 256) ≡ take 4 (drop n (recordsOf 8 x))
-four-in-ok x n h =
+four-of : (x n : ℕ) → n ≤ 4 → recordsOf 4 (x / 2 ^ (8 - 2 * n) % 256) ≡ take 4 (drop n (recordsOf 8 x))
+four-of x n h =
     let s : ℕ = 4 - n in
     let z : 8 - 2 * n ≡ 2 * s = omega arith in
     let k : n + 4 + s ≡ 8 = omega arith in
@@ -177,8 +192,19 @@ four-in-ok x n h =
     let e : recordsOf 8 x ≡ A ++ (B ++ C) = rw k at (thirds n 4 s x) in
     rw z (sym (ap (λ l. take 4 (drop n l)) e ∙ ap (take 4) (drop-at A (B ++ C) n (length-run n (x / 2 ^ (2 * s) / 2 ^ (2 * 4)))) ∙ take-at B C 4 (length-run 4 (x / 2 ^ (2 * s) % 2 ^ (2 * 4)))))
 
+-- as the shifts of a word give them
+word-down : (x n : ℕ) → n ≤ 4 → x * 2 ^ (2 * n) % 2 ^ 64 / 2 ^ 56 ≡ x / 2 ^ 48 / 2 ^ (8 - 2 * n) % 256
+word-down x n h = elim (ℕ-discrete n 4) [
+  | yes y ↦ rw y (omega arith)
+  | no y ↦ cases4 (λ n. x * 2 ^ (2 * n) % 2 ^ 64 / 2 ^ 56 ≡ x / 2 ^ 48 / 2 ^ (8 - 2 * n) % 256) (omega arith) (omega arith) (omega arith) (omega arith) n (omega arith)
+]
+
+pub four-in-ok : (x n : ℕ) → n ≤ 4 → recordsOf 4 (x * 2 ^ (2 * n) % 2 ^ 64 / 2 ^ 56) ≡ take 4 (drop n (eightOf x))
+unfolding eightOf
+four-in-ok x n h = rw (word-down x n h) (four-of (x / 2 ^ 48) n h)
+
 -- they are those from n places on
-pub window-at : (l : Bytes) (i n v : ℕ) → recordsOf 8 v ≡ recordsAt l i 8 → n ≤ 4 → take 4 (drop n (recordsOf 8 v)) ≡ recordsAt l (i + n) 4
+pub window-at : (l : Bytes) (i n v : ℕ) → eightOf v ≡ recordsAt l i 8 → n ≤ 4 → take 4 (drop n (eightOf v)) ≡ recordsAt l (i + n) 4
 window-at l i n v e h =
     let s : ℕ = 4 - n in
     let k : n + 4 + s ≡ 8 = omega arith in
@@ -215,8 +241,8 @@ byte-set q i x h =
     code-at (set q i x) j ∙ rw e (sym (code-at q j))))
     (getD-set-same q i x 0 h)
 
-abbrev fiveSet : Bytes → ℕ → ℕ → Bytes
-fiveSet q i v = set (set (set (set (set q i (v / 4294967296)) (i + 1) (v / 16777216 % 256)) (i + 2) (v / 65536 % 256)) (i + 3) (v / 256 % 256)) (i + 4) (v % 256)
+abbrev eightSet : Bytes → ℕ → ℕ → Bytes
+eightSet q i v = set (set (set (set (set (set (set (set q i (v / 72057594037927936)) (i + 1) (v / 281474976710656 % 256)) (i + 2) (v / 1099511627776 % 256)) (i + 3) (v / 4294967296 % 256)) (i + 4) (v / 16777216 % 256)) (i + 5) (v / 65536 % 256)) (i + 6) (v / 256 % 256)) (i + 7) (v % 256)
 
 -- the next byte set, behind n records of a number
 next-set : (q p : Bytes) (i j n v u : ℕ) → u ≡ v / 256 → recordsTo p (4 * j) ≡ recordsTo q (4 * i) ++ recordsOf n u → j < length p
@@ -225,49 +251,64 @@ next-set q p i j n v u d e h =
     byte-set p j (v % 256) h ∙ ap (λ t. t ++ recordsOf 4 (v % 256)) (e ∙ ap (λ t. recordsTo q (4 * i) ++ recordsOf n t) d) ∙ append-assoc (recordsTo q (4 * i)) (recordsOf n (v / 256)) (recordsOf 4 (v % 256))
     ∙ ap (λ t. recordsTo q (4 * i) ++ t) (sym (cut n 4 v))
 
-five-set : (q : Bytes) (i v : ℕ) → i + 4 < length q → recordsTo (fiveSet q i v) (4 * i + 20) ≡ recordsTo q (4 * i) ++ recordsOf 20 v
-five-set q i v h =
-    let q1 : Bytes = set q i (v / 4294967296) in
-    let q2 : Bytes = set q1 (i + 1) (v / 16777216 % 256) in
-    let q3 : Bytes = set q2 (i + 2) (v / 65536 % 256) in
-    let q4 : Bytes = set q3 (i + 3) (v / 256 % 256) in
-    let n1 : length q1 ≡ length q = length-set q i (v / 4294967296) in
-    let n2 : length q2 ≡ length q1 = length-set q1 (i + 1) (v / 16777216 % 256) in
-    let n3 : length q3 ≡ length q2 = length-set q2 (i + 2) (v / 65536 % 256) in
-    let n4 : length q4 ≡ length q3 = length-set q3 (i + 3) (v / 256 % 256) in
-    let a1 : v / 16777216 / 256 ≡ v / 4294967296 = omega arith in
-    let a2 : v / 65536 / 256 ≡ v / 16777216 = omega arith in
-    let a3 : v / 256 / 256 ≡ v / 65536 = omega arith in
+eight-set : (q : Bytes) (i v : ℕ) → i + 7 < length q → recordsTo (eightSet q i v) (4 * i + 32) ≡ recordsTo q (4 * i) ++ recordsOf 32 v
+eight-set q i v h =
+    let q1 : Bytes = set q i (v / 72057594037927936) in
+    let q2 : Bytes = set q1 (i + 1) (v / 281474976710656 % 256) in
+    let q3 : Bytes = set q2 (i + 2) (v / 1099511627776 % 256) in
+    let q4 : Bytes = set q3 (i + 3) (v / 4294967296 % 256) in
+    let q5 : Bytes = set q4 (i + 4) (v / 16777216 % 256) in
+    let q6 : Bytes = set q5 (i + 5) (v / 65536 % 256) in
+    let q7 : Bytes = set q6 (i + 6) (v / 256 % 256) in
+    let n1 : length q1 ≡ length q = length-set q i (v / 72057594037927936) in
+    let n2 : length q2 ≡ length q1 = length-set q1 (i + 1) (v / 281474976710656 % 256) in
+    let n3 : length q3 ≡ length q2 = length-set q2 (i + 2) (v / 1099511627776 % 256) in
+    let n4 : length q4 ≡ length q3 = length-set q3 (i + 3) (v / 4294967296 % 256) in
+    let n5 : length q5 ≡ length q4 = length-set q4 (i + 4) (v / 16777216 % 256) in
+    let n6 : length q6 ≡ length q5 = length-set q5 (i + 5) (v / 65536 % 256) in
+    let n7 : length q7 ≡ length q6 = length-set q6 (i + 6) (v / 256 % 256) in
+    let a1 : v / 281474976710656 / 256 ≡ v / 72057594037927936 = omega arith in
+    let a2 : v / 1099511627776 / 256 ≡ v / 281474976710656 = omega arith in
+    let a3 : v / 4294967296 / 256 ≡ v / 1099511627776 = omega arith in
+    let a4 : v / 16777216 / 256 ≡ v / 4294967296 = omega arith in
+    let a5 : v / 65536 / 256 ≡ v / 16777216 = omega arith in
+    let a6 : v / 256 / 256 ≡ v / 65536 = omega arith in
     let z1 : 4 * i + 4 ≡ 4 * (i + 1) = omega arith in
     let z2 : 4 * (i + 1) + 4 ≡ 4 * (i + 2) = omega arith in
     let z3 : 4 * (i + 2) + 4 ≡ 4 * (i + 3) = omega arith in
     let z4 : 4 * (i + 3) + 4 ≡ 4 * (i + 4) = omega arith in
-    let z5 : 4 * (i + 4) + 4 ≡ 4 * i + 20 = omega arith in
-    let e1 : recordsTo q1 (4 * (i + 1)) ≡ recordsTo q (4 * i) ++ recordsOf 4 (v / 4294967296) = rw z1 at (byte-set q i (v / 4294967296) (omega arith)) in
-    let e2 : recordsTo q2 (4 * (i + 2)) ≡ recordsTo q (4 * i) ++ recordsOf 8 (v / 16777216) = rw z2 at (next-set q q1 i (i + 1) 4 (v / 16777216) (v / 4294967296) (sym a1) e1 (omega arith)) in
-    let e3 : recordsTo q3 (4 * (i + 3)) ≡ recordsTo q (4 * i) ++ recordsOf 12 (v / 65536) = rw z3 at (next-set q q2 i (i + 2) 8 (v / 65536) (v / 16777216) (sym a2) e2 (omega arith)) in
-    let e4 : recordsTo q4 (4 * (i + 4)) ≡ recordsTo q (4 * i) ++ recordsOf 16 (v / 256) = rw z4 at (next-set q q3 i (i + 3) 12 (v / 256) (v / 65536) (sym a3) e3 (omega arith)) in
-    rw z5 at (next-set q q4 i (i + 4) 16 v (v / 256) refl e4 (omega arith))
+    let z5 : 4 * (i + 4) + 4 ≡ 4 * (i + 5) = omega arith in
+    let z6 : 4 * (i + 5) + 4 ≡ 4 * (i + 6) = omega arith in
+    let z7 : 4 * (i + 6) + 4 ≡ 4 * (i + 7) = omega arith in
+    let z8 : 4 * (i + 7) + 4 ≡ 4 * i + 32 = omega arith in
+    let e1 : recordsTo q1 (4 * (i + 1)) ≡ recordsTo q (4 * i) ++ recordsOf 4 (v / 72057594037927936) = rw z1 at (byte-set q i (v / 72057594037927936) (omega arith)) in
+    let e2 : recordsTo q2 (4 * (i + 2)) ≡ recordsTo q (4 * i) ++ recordsOf 8 (v / 281474976710656) = rw z2 at (next-set q q1 i (i + 1) 4 (v / 281474976710656) (v / 72057594037927936) (sym a1) e1 (omega arith)) in
+    let e3 : recordsTo q3 (4 * (i + 3)) ≡ recordsTo q (4 * i) ++ recordsOf 12 (v / 1099511627776) = rw z3 at (next-set q q2 i (i + 2) 8 (v / 1099511627776) (v / 281474976710656) (sym a2) e2 (omega arith)) in
+    let e4 : recordsTo q4 (4 * (i + 4)) ≡ recordsTo q (4 * i) ++ recordsOf 16 (v / 4294967296) = rw z4 at (next-set q q3 i (i + 3) 12 (v / 4294967296) (v / 1099511627776) (sym a3) e3 (omega arith)) in
+    let e5 : recordsTo q5 (4 * (i + 5)) ≡ recordsTo q (4 * i) ++ recordsOf 20 (v / 16777216) = rw z5 at (next-set q q4 i (i + 4) 16 (v / 16777216) (v / 4294967296) (sym a4) e4 (omega arith)) in
+    let e6 : recordsTo q6 (4 * (i + 6)) ≡ recordsTo q (4 * i) ++ recordsOf 24 (v / 65536) = rw z6 at (next-set q q5 i (i + 5) 20 (v / 65536) (v / 16777216) (sym a5) e5 (omega arith)) in
+    let e7 : recordsTo q7 (4 * (i + 7)) ≡ recordsTo q (4 * i) ++ recordsOf 28 (v / 256) = rw z7 at (next-set q q6 i (i + 6) 24 (v / 256) (v / 65536) (sym a6) e6 (omega arith)) in
+    rw z8 at (next-set q q7 i (i + 7) 28 v (v / 256) refl e7 (omega arith))
 
-pub put-run : (q : Bytes) (k n w v : ℕ) → k / 4 + 4 < length q → n ≤ 16 → w < 2 ^ (2 * n)
-    → v ≡ (getD q (k / 4) 0 / 2 ^ (2 * (4 - k % 4)) * 2 ^ (2 * n) + w) * 2 ^ (2 * (20 - k % 4 - n))
-    → Appended k n w q (fiveSet q (k / 4) v)
+pub put-run : (q : Bytes) (k n w v : ℕ) → k / 4 + 7 < length q → n ≤ 16 → w < 2 ^ (2 * n)
+    → v ≡ (getD q (k / 4) 0 / 2 ^ (2 * (4 - k % 4)) * 2 ^ (2 * n) + w) * 2 ^ (2 * (32 - k % 4 - n))
+    → Appended k n w q (eightSet q (k / 4) v)
 put-run q k n w v h l s e =
     let i : ℕ = k / 4 in
     let r : ℕ = k % 4 in
-    let t : ℕ = 20 - r - n in
+    let t : ℕ = 32 - r - n in
     let x : ℕ = getD q i 0 / 2 ^ (2 * (4 - r)) in
     let N : ℕ = x * 2 ^ (2 * n) + w in
-    let p : Bytes = fiveSet q i v in
-    let z : r + n + t ≡ 20 = omega arith in
+    let p : Bytes = eightSet q i v in
+    let z : r + n + t ≡ 32 = omega arith in
     let y : N * 2 ^ (2 * t) + 0 ≡ v = e2 N (2 ^ (2 * t)) v (sym e) in
-    let c : recordsOf 20 v ≡ recordsOf (r + n) N ++ recordsOf t 0 = rw (z, y) at (cat (r + n) t N 0 (pow-pos (2 * t))) in
+    let c : recordsOf 32 v ≡ recordsOf (r + n) N ++ recordsOf t 0 = rw (z, y) at (cat (r + n) t N 0 (pow-pos (2 * t))) in
     let d : recordsOf (r + n) N ≡ recordsOf r x ++ recordsOf n w = cat r n x w s in
-    let f : recordsTo p (4 * i + 20) ≡ (recordsTo q k ++ recordsOf n w) ++ recordsOf t 0 =
-    five-set q i v h ∙ rw (c, d, front q k) (assoc (recordsTo q (4 * i)) (recordsOf r x) (recordsOf n w) (recordsOf t 0)) in
+    let f : recordsTo p (4 * i + 32) ≡ (recordsTo q k ++ recordsOf n w) ++ recordsOf t 0 =
+    eight-set q i v h ∙ rw (c, d, front q k) (assoc (recordsTo q (4 * i)) (recordsOf r x) (recordsOf n w) (recordsOf t 0)) in
     let m : length (recordsTo q k ++ recordsOf n w) ≡ k + n = omega (arith, length-append (recordsTo q k) (recordsOf n w), length-records q k, length-run n w) in
     record {
-      records = sym (records-take p (k + n) (4 * i + 20) (omega arith)) ∙ ap (take (k + n)) f ∙ take-at (recordsTo q k ++ recordsOf n w) (recordsOf t 0) (k + n) m;
+      records = sym (records-take p (k + n) (4 * i + 32) (omega arith)) ∙ ap (take (k + n)) f ∙ take-at (recordsTo q k ++ recordsOf n w) (recordsOf t 0) (k + n) m;
       size = simp length-set;
     }
   where
@@ -277,27 +318,33 @@ put-run q k n w v h l s e =
     assoc : {A : Type 0} (a b c d : List A) → a ++ ((b ++ c) ++ d) ≡ ((a ++ b) ++ c) ++ d
     assoc a b c d = simp append-assoc
 
--- as the shifts of a number of 64 bits give it
+-- as the shifts of a number of 64 bits give it: the k % 4 records in front in x, and a run of b bits of w
 abbrev pub Spliced : ℕ → ℕ → ℕ → ℕ → Type 0
-Spliced x r n w =
-    (x / 2 ^ (8 - 2 * r) * 2 ^ (2 * n) % 2 ^ 64 + w < 2 ^ 64)
-    × ((x / 2 ^ (8 - 2 * r) * 2 ^ (2 * n) % 2 ^ 64 + w) * 2 ^ (40 - 2 * r - 2 * n) % 2 ^ 64 < 2 ^ 40)
-    × ((x / 2 ^ (8 - 2 * r) * 2 ^ (2 * n) % 2 ^ 64 + w) * 2 ^ (40 - 2 * r - 2 * n) % 2 ^ 64 ≡ (x / 2 ^ (2 * (4 - r)) * 2 ^ (2 * n) + w) * 2 ^ (2 * (20 - r - n)))
+Spliced x r b w =
+    (x / 2 ^ (8 - 2 * r) * 2 ^ b % 2 ^ 64 + w < 2 ^ 38)
+    × ((x / 2 ^ (8 - 2 * r) * 2 ^ b % 2 ^ 64 + w) * 2 * 2 ^ (63 - 2 * r - b) % 2 ^ 64 ≡ (x / 2 ^ (2 * (4 - r)) * 2 ^ (2 * (b / 2)) + w) * 2 ^ (2 * (32 - r - b / 2)))
 
-pub spliced : (x k n w : ℕ) → x < 256 → n ≤ 16 → w < 2 ^ (2 * n) → Spliced x (k % 4) n w
-spliced x k n w h l s =
+double : (a n : ℕ) → a * 2 * 2 ^ n ≡ a * 2 ^ suc n
+double a n = rw (pow-suc 2 n) (regroup a (2 ^ n))
+  where
+    regroup : (a p : ℕ) → a * 2 * p ≡ a * (p * 2)
+    regroup a p = omega arith
+
+pub spliced : (x k b w : ℕ) → x < 256 → Short 16 w b → Spliced x (k % 4) b w
+spliced x k b w h s =
     let r : ℕ = k % 4 in
     let a : ℕ = x / 2 ^ (8 - 2 * r) in
     let z : 2 * r + (8 - 2 * r) ≡ 8 = omega arith in
-    let y : 2 * r + 2 * n + (40 - 2 * r - 2 * n) ≡ 40 = omega arith in
     let u : 2 * (4 - r) ≡ 8 - 2 * r = omega arith in
-    let t : 2 * (20 - r - n) ≡ 40 - 2 * r - 2 * n = omega arith in
+    let c : 2 * (b / 2) ≡ b = s .2 in
+    let l : b ≤ 32 = omega (arith, s .1) in
+    let t : 2 * (32 - r - b / 2) ≡ suc (63 - 2 * r - b) = omega arith in
     let ha : a < 2 ^ (2 * r) = shr-lt (2 * r) (8 - 2 * r) (rw z h) in
-    let hN : a * 2 ^ (2 * n) + w < 2 ^ (2 * r + 2 * n) = cat-lt (2 * r) (2 * n) ha s in
-    let e : a * 2 ^ (2 * n) % 2 ^ 64 ≡ a * 2 ^ (2 * n) = shl-exact (2 * r) (2 * n) 64 ha (omega arith) in
-    let f : (a * 2 ^ (2 * n) + w) * 2 ^ (40 - 2 * r - 2 * n) % 2 ^ 64 ≡ (a * 2 ^ (2 * n) + w) * 2 ^ (40 - 2 * r - 2 * n) =
-    shl-exact (2 * r + 2 * n) (40 - 2 * r - 2 * n) 64 hN (omega arith) in
-    let g : (a * 2 ^ (2 * n) + w) * 2 ^ (40 - 2 * r - 2 * n) < 2 ^ 40 = rw y at (shl-lt (2 * r + 2 * n) (40 - 2 * r - 2 * n) hN) in
-    let o : 2 * r + 2 * n ≤ 38 = omega arith in
-    let m : 2 ^ (2 * r + 2 * n) ≤ 2 ^ 38 = pow-mono {j = 38} o in
-    (rw e (omega arith), rw (e, f) g, rw (e, f, u, t))
+    let hN : a * 2 ^ b + w < 2 ^ (2 * r + b) = cat-lt (2 * r) b ha (s .0) in
+    let e : a * 2 ^ b % 2 ^ 64 ≡ a * 2 ^ b = shl-exact (2 * r) b 64 ha (omega arith) in
+    let d : (a * 2 ^ b + w) * 2 * 2 ^ (63 - 2 * r - b) ≡ (a * 2 ^ b + w) * 2 ^ suc (63 - 2 * r - b) = double (a * 2 ^ b + w) (63 - 2 * r - b) in
+    let f : (a * 2 ^ b + w) * 2 ^ suc (63 - 2 * r - b) % 2 ^ 64 ≡ (a * 2 ^ b + w) * 2 ^ suc (63 - 2 * r - b) =
+    shl-exact (2 * r + b) (suc (63 - 2 * r - b)) 64 hN (omega arith) in
+    let o : 2 * r + b ≤ 38 = omega arith in
+    let m : 2 ^ (2 * r + b) ≤ 2 ^ 38 = pow-mono {j = 38} o in
+    (rw e (omega arith), rw (e, d, f, u, t, c))

@@ -17,15 +17,23 @@ unfoldable pub bitsOf : ℕ → ℕ → List Bool
 bitsOf zero x = []
 bitsOf (suc n) x = bitsOf n (x / 2) ++ odd x ∷ []
 
--- a run: c records in x, at most n
+-- the eight records of a window, in the upper 16 of 64 bits
+unfoldable pub eightOf : ℕ → List Record
+eightOf x = recordsOf 8 (x / 2 ^ 48)
+
+-- a run: b bits of x, two to a record, of at most n records
 abbrev pub Short : ℕ → ℕ → ℕ → Type 0
-Short n x c = (x < 2 ^ (2 * c)) × (c ≤ n)
+Short n x b = (x < 2 ^ b) × (b ≤ 2 * n) × (2 * (b / 2) ≡ b)
 
 -- n records of a number put behind the first k
 pub record Appended (k n w : ℕ) (o p : Bytes) : Type 0 where
   pub records : recordsTo p (k + n) ≡ recordsTo o k ++ recordsOf n w
   pub size : length p ≡ length o
 
--- a window or a run that begins at a record reads or writes at most so many: five bytes of them
+-- a window that begins at a record reads at most so many: four bytes of them
 abbrev pub overread : ℕ
-overread = 20
+overread = 16
+
+-- a run put behind a record writes at most so many: eight bytes of them
+abbrev pub overwrite : ℕ
+overwrite = 32

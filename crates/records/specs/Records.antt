@@ -24,6 +24,10 @@ children r = bit (r .onZero) + bit (r .onOne)
 unfoldable pub recordOfCode : ℕ → Record
 recordOfCode x = record { onZero = odd (x / 2); onOne = odd x }
 
+-- the number of record k of a byte
+unfoldable pub codeIn : ℕ → ℕ → ℕ
+codeIn x k = x / 2 ^ (6 - 2 * k) % 4
+
 -- record i of bytes, and the first n
 unfoldable pub recordAt : Bytes → ℕ → Record
 recordAt l i = record { onZero = bitAt l (2 * i); onOne = bitAt l (2 * i + 1) }

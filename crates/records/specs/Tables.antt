@@ -1,7 +1,7 @@
 -- What the filled tables tell of four records, or of two times four bits.
 use mathlib.Core.Path.{_≡_}
 use Prim.Native.Nat.{ℕ, _+_, _*_, _/_, _%_, _^_, _<_}
-use mathlib.Core.Bool.{Bool, true, _&&_, cond}
+use mathlib.Core.Bool.{Bool, true, cond}
 use mathlib.Core.List.{List, [], _∷_, _++_, map}
 use lib.ListN.{length, getD}
 use lib.Dec.{ltb, eqb}
@@ -89,16 +89,23 @@ eitherFlags [] ys = []
 eitherFlags (x ∷ xs) [] = []
 eitherFlags (x ∷ xs) (y ∷ ys) = flagIf x y ++ eitherFlags xs ys
 
--- a run of at most four records: 256 times how many, and their number
+-- a run of at most four records: 256 times its bits, and their number
 pub record RunTold : Type 0 where
   pub records : List Record
-  pub small : Bool
+  pub fits : Bool
+  pub few : Bool
+  pub whole : Bool
 
 unfoldable pub runIn : ℕ → RunTold
-runIn h = record { records = recordsOf (h / 256) (h % 256); small = ltb (h % 256) (2 ^ (2 * (h / 256))) && ltb (h / 256) 5 }
+runIn h = record {
+  records = recordsOf (h / 256 / 2) (h % 256);
+  fits = ltb (h % 256) (2 ^ (h / 256));
+  few = ltb (h / 256) 9;
+  whole = eqb (2 * (h / 256 / 2)) (h / 256);
+}
 
 unfoldable pub runOf : List Flag → RunTold
-runOf l = record { records = map recordOfFlag l; small = true }
+runOf l = record { records = map recordOfFlag l; fits = true; few = true; whole = true }
 
 -- the flags of the bits of x and of y
 abbrev pub Runs : List ℕ → Type 0

@@ -5,19 +5,26 @@ ghost use mathlib.Core.List.{_++_, map};
 ghost use lib.ListN.{length, take, drop};
 ghost use Rattle.loes.specs.Limits.{maxEdges};
 ghost use Rattle.loes.specs.Edges.{Record};
-ghost use Rattle.records.specs.Records.{recordOfCode, recordAt, recordsAt, flagOfRecord, recordOfFlag, firstCount, secondCount, withRecord, Put, Pushed, Sealed};
-ghost use Rattle.records.specs.Numbers.{recordsOf, bitsOf, Short, Appended};
+ghost use Rattle.records.specs.Records.{recordOfCode, codeIn, recordAt, recordsAt, flagOfRecord, recordOfFlag, firstCount, secondCount, withRecord, Put, Pushed, Sealed};
+ghost use Rattle.records.specs.Numbers.{recordsOf, bitsOf, eightOf, Short, Appended};
 ghost use Rattle.records.specs.Tables.{spread, keptBy, eitherFlags, Spreads, Parted, Runs};
 
 // ---- Records in bytes, as numbers 2·onZero + onOne
+
+// Record k of a byte.
+pub fn record_in(x: u8, k: usize) -> u8
+    requires { ⌜ k < 4 ⌝ }
+    ensures { λ r. ⌜ (r ≡ codeIn x k) × (r < 4) ⌝ }
+{
+    (x >> (6 - 2 * k)) % 4
+}
 
 // Record i of bytes.
 pub fn record_at(l: &[u8], i: usize) -> u8
     requires { ⌜ i / 4 < length (now l) ⌝ }
     ensures { λ r. ⌜ (recordOfCode r ≡ recordAt (now (l .entry)) i) × (r < 4) ⌝ }
 {
-    let x = l[i / 4];
-    (x >> (6 - 2 * (i % 4))) % 4
+    record_in(l[i / 4], i % 4)
 }
 
 // A byte with its record k set to z.
@@ -26,8 +33,7 @@ fn with_record(old: u8, k: usize, z: u8) -> u8
     ensures { λ r. ⌜ r ≡ withRecord old k z ⌝ }
 {
     let s = 6 - 2 * k;
-    let was = (old >> s) % 4;
-    old - (was << s) + (z << s)
+    (old & (255 - (3 << s))) | (z << s)
 }
 
 // Record i of bytes is set to z.
@@ -70,61 +76,65 @@ pub fn wide(x: u8) -> usize
     x as usize
 }
 
-// Eight records from record i on.
+// Eight records from record i on, in the upper bits of a word.
 pub fn window(l: &[u8], i: usize) -> usize
     requires { ⌜ i / 4 + 3 < length (now l) ⌝ }
-    ensures { λ r. ⌜ (recordsOf 8 r ≡ recordsAt (now (l .entry)) i 8) × (r < 65536) ⌝ }
+    ensures { λ r. ⌜ eightOf r ≡ recordsAt (now (l .entry)) i 8 ⌝ }
 {
     let at = i / 4;
     let x = wide(l[at]) * 16777216
         + wide(l[at + 1]) * 65536
         + wide(l[at + 2]) * 256
         + wide(l[at + 3]);
-    (x >> (16 - 2 * (i % 4))) % 65536
+    x << (32 + 2 * (i % 4))
 }
 
-// Four records behind the first n of eight.
+// Four records behind the first n of such eight.
 pub fn four_in(x: usize, n: usize) -> usize
     requires { ⌜ n ≤ 4 ⌝ }
-    ensures { λ r. ⌜ (recordsOf 4 r ≡ take 4 (drop n (recordsOf 8 x))) × (r < 256) ⌝ }
+    ensures { λ r. ⌜ (recordsOf 4 r ≡ take 4 (drop n (eightOf x))) × (r < 256) ⌝ }
 {
-    (x >> (8 - 2 * n)) % 256
+    (x << (2 * n)) >> 56
 }
 
-// A run of records: so many in a number.
+// A run of records: so many bits of a number, two to a record.
 pub struct Run {
     pub records: usize,
-    pub count: usize,
+    pub bits: usize,
 }
 
 // A run, and one behind it.
 pub fn run_and(h: Run, g: Run) -> Run
-    requires { ⌜ Short 8 (h .records) (h .count) × Short 8 (g .records) (g .count) ⌝ }
-    ensures { λ r. ⌜ (recordsOf (r .count) (r .records) ≡ recordsOf (h .count) (h .records) ++ recordsOf (g .count) (g .records)) × (r .records < 2 ^ (2 * r .count)) × (r .count ≡ h .count + g .count) ⌝ }
+    requires { ⌜ Short 8 (h .records) (h .bits) × Short 8 (g .records) (g .bits) ⌝ }
+    ensures { λ r. ⌜ (recordsOf (r .bits / 2) (r .records) ≡ recordsOf (h .bits / 2) (h .records) ++ recordsOf (g .bits / 2) (g .records)) × (r .records < 2 ^ r .bits) × (r .bits ≡ h .bits + g .bits) ⌝ }
 {
-    let n = g.count;
-    let x = (h.records << (2 * n)) + g.records;
+    let n = g.bits;
+    let x = (h.records << n) + g.records;
     Run {
         records: x,
-        count: h.count + n,
+        bits: h.bits + n,
     }
 }
 
-// A run put behind the first k records.
+// A run put behind the first k records. Eight bytes are written, which is one store: what is behind the run is cleared.
 pub fn append(out: &mut [u8], k: usize, r: Run)
-    requires { ⌜ (k / 4 + 4 < length (now out)) × Short 16 (r .records) (r .count) ⌝ }
-    ensures { λ _. ⌜ Appended k (r .count) (r .records) (now (out .entry)) (now (out .exit)) ⌝ }
+    requires { ⌜ (k / 4 + 7 < length (now out)) × Short 16 (r .records) (r .bits) ⌝ }
+    ensures { λ _. ⌜ Appended k (r .bits / 2) (r .records) (now (out .entry)) (now (out .exit)) ⌝ }
 {
     let at = k / 4;
-    let n = 2 * r.count;
+    let n = r.bits;
     let p = 2 * (k % 4);
     let old = wide(out[at]);
-    let v = (((old >> (8 - p)) << n) + r.records) << (40 - p - n);
-    out[at] = (v / 4294967296) as u8;
-    out[at + 1] = (v / 16777216 % 256) as u8;
-    out[at + 2] = (v / 65536 % 256) as u8;
-    out[at + 3] = (v / 256 % 256) as u8;
-    out[at + 4] = (v % 256) as u8;
+    let w = ((old >> (8 - p)) << n) + r.records;
+    let v = (w * 2) << (63 - p - n);
+    out[at] = (v >> 56) as u8;
+    out[at + 1] = ((v >> 48) % 256) as u8;
+    out[at + 2] = ((v >> 40) % 256) as u8;
+    out[at + 3] = ((v >> 32) % 256) as u8;
+    out[at + 4] = ((v >> 24) % 256) as u8;
+    out[at + 5] = ((v >> 16) % 256) as u8;
+    out[at + 6] = ((v >> 8) % 256) as u8;
+    out[at + 7] = (v % 256) as u8;
 }
 
 // ---- Tables, filled once and lent
@@ -174,11 +184,11 @@ pub fn kept_in(t: &[u32], x: usize, w: usize) -> usize
 // The flags of four bits of each that are in either.
 pub fn run_at(t: &[u16], x: usize, y: usize) -> Run
     requires { ⌜ Runs (now t) × (x < 16) × (y < 16) ⌝ }
-    ensures { λ r. ⌜ (recordsOf (r .count) (r .records) ≡ map recordOfFlag (eitherFlags (bitsOf 4 x) (bitsOf 4 y))) × Short 4 (r .records) (r .count) ⌝ }
+    ensures { λ r. ⌜ (recordsOf (r .bits / 2) (r .records) ≡ map recordOfFlag (eitherFlags (bitsOf 4 x) (bitsOf 4 y))) × Short 4 (r .records) (r .bits) ⌝ }
 {
     let h = t[16 * x + y] as usize;
     Run {
         records: h % 256,
-        count: h / 256,
+        bits: h / 256,
     }
 }

@@ -12,6 +12,7 @@ use Rattle.loes.specs.Bytes.{Bytes, bit, odd, tabulate}
 use Rattle.loes.specs.Edges.{Record}
 use Rattle.loes.proofs.Tests.{lt-yes, lt-no, eq-no}
 use Rattle.loes.proofs.Tree.{bit-le}
+use Rattle.loes.proofs.Bits.{tabulate-ext}
 use Rattle.records.specs.Records.{emptyRecord, hasEdge, children, recordOfCode, recordAt, recordsAt, nextOf, restOf, flagAt, isFlag, flagOfRecord, firstCount, secondCount, withRecord, Put}
 use Rattle.records.specs.Numbers.{recordsOf, bitsOf}
 use Rattle.records.specs.Tables.{spread, keptBy}
@@ -157,8 +158,8 @@ kept-test w p r d t k h et s m l =
 
 -- ---- A byte marked is four records marked, from the last to the first
 -- record i of P marked, which gives O; the entries from b on are those of p
-record Step (w : ℕ) (e q : Bytes) (r n : ℕ) (p : Bytes) (b i d : ℕ) (P O : Bytes) (s : Record) : Type 0 where
-  marking : Marking w e q r n i d O
+record Step (w : ℕ) (q : Bytes) (r n : ℕ) (p : Bytes) (b i d : ℕ) (P O : Bytes) (s : Record) : Type 0 where
+  marking : Marking w q r n i d O
   kept : (m : ℕ) → b ≤ m → keptAt w O r m ≡ keptAt w p r m
   size : length O ≡ length p
   here : recordAt O i ≡ maskAt (keptAt w p r) d s
@@ -168,10 +169,10 @@ kept-same : (w : ℕ) (o p : Bytes) (r m : ℕ) → recordAt o m ≡ recordAt p 
 unfolding keptAt flagAt
 kept-same w o p r m e = rw e
 
-step : {w : ℕ} {e q : Bytes} {r n : ℕ} → Entries e r n → (p P : Bytes) (b i k c d x : ℕ) → k ≡ suc i → c ≡ d + children (recordOfCode x) → Marking w e q r n k c P
-    → ((m : ℕ) → b ≤ m → keptAt w P r m ≡ keptAt w p r m) → length P ≡ length p → x < 4 → recordOfCode x ≡ recordAt e i → i < b → b ≤ d → i / 4 < length p
-    → (O : Bytes) × Step w e q r n p b i d P O (recordOfCode x)
-step {w} {e} {q} {r} {n} a p P b i k c d x ek ec v same size small ex hi hd room =
+step : {w : ℕ} {q : Bytes} {r n : ℕ} → Entries q r n → (p P : Bytes) (b i k c d x : ℕ) → k ≡ suc i → c ≡ d + children (recordOfCode x) → Marking w q r n k c P
+    → ((m : ℕ) → b ≤ m → keptAt w P r m ≡ keptAt w p r m) → length P ≡ length p → x < 4 → recordOfCode x ≡ recordAt q i → i < b → b ≤ d → i / 4 < length p
+    → (O : Bytes) × Step w q r n p b i d P O (recordOfCode x)
+step {w} {q} {r} {n} a p P b i k c d x ek ec v same size small ex hi hd room =
     let z : c - (x / 2 + x % 2) ≡ d = omega (arith, children-code x small) in
     let A : ℕ = bit (odd (x / 2) && keptAt w P r d) in
     let B : ℕ = bit (odd x && keptAt w P r (d + x / 2)) in
@@ -191,27 +192,28 @@ step {w} {e} {q} {r} {n} a p P b i k c d x ek ec v same size small ex hi hd room
       },
     )
 
-marking-same : {w : ℕ} {e q : Bytes} {r n k c : ℕ} {o p : Bytes} (i : ℕ) → Marking w e q r n k c o → k ≡ i → ((m : ℕ) → recordAt p m ≡ recordAt o m) → length p ≡ length o → Marking w e q r n i c p
+marking-same : {w : ℕ} {q : Bytes} {r n k c : ℕ} {o p : Bytes} (i : ℕ) → Marking w q r n k c o → k ≡ i → ((m : ℕ) → recordAt p m ≡ recordAt o m) → length p ≡ length o → Marking w q r n i c p
 marking-same {r} {o} {p} i h y same size =
     let v = rw y at h in
     record {
       out = ap (drop i) (records-same p o r (λ m h. same m)) ∙ v .out;
       next = v .next;
       low = v .low;
+      front = λ m h. same m ∙ v .front m h;
       other = λ m h. same m ∙ v .other m h;
       size = size ∙ v .size;
     }
 
-module _ {w : ℕ} {e q : Bytes} {r n : ℕ} (a : Entries e r n) (p u : Bytes) (j c d : ℕ) where
+module _ {w : ℕ} {q : Bytes} {r n : ℕ} (a : Entries q r n) (p u : Bytes) (j c d : ℕ) where
   four-steps : (x0 x1 x2 x3 : ℕ) → x0 < 4 → x1 < 4 → x2 < 4 → x3 < 4
-      → recordOfCode x0 ≡ recordAt e (4 * j + 0) → recordOfCode x1 ≡ recordAt e (4 * j + 1) → recordOfCode x2 ≡ recordAt e (4 * j + 2) → recordOfCode x3 ≡ recordAt e (4 * j + 3)
-      → Marking w e q r n (4 * j + 4) c p → 4 * j + 4 ≤ d
+      → recordOfCode x0 ≡ recordAt q (4 * j + 0) → recordOfCode x1 ≡ recordAt q (4 * j + 1) → recordOfCode x2 ≡ recordAt q (4 * j + 2) → recordOfCode x3 ≡ recordAt q (4 * j + 3)
+      → Marking w q r n (4 * j + 4) c p → 4 * j + 4 ≤ d
       → c ≡ d + children (recordOfCode x0) + children (recordOfCode x1) + children (recordOfCode x2) + children (recordOfCode x3) → j < length p
       → recordAt u (4 * j + 0) ≡ maskAt (keptAt w p r) d (recordOfCode x0)
       → recordAt u (4 * j + 1) ≡ maskAt (keptAt w p r) (d + children (recordOfCode x0)) (recordOfCode x1)
       → recordAt u (4 * j + 2) ≡ maskAt (keptAt w p r) (d + children (recordOfCode x0) + children (recordOfCode x1)) (recordOfCode x2)
       → recordAt u (4 * j + 3) ≡ maskAt (keptAt w p r) (d + children (recordOfCode x0) + children (recordOfCode x1) + children (recordOfCode x2)) (recordOfCode x3)
-      → ((m : ℕ) → (m / 4 ≡ j → ⊥) → recordAt u m ≡ recordAt p m) → length u ≡ length p → Marking w e q r n (4 * j) d u
+      → ((m : ℕ) → (m / 4 ≡ j → ⊥) → recordAt u m ≡ recordAt p m) → length u ≡ length p → Marking w q r n (4 * j) d u
   four-steps x0 x1 x2 x3 l0 l1 l2 l3 e0 e1 e2 e3 v hd hc room u0 u1 u2 u3 other size =
       let b : ℕ = 4 * j + 4 in
       let k0 : ℕ = children (recordOfCode x0) in
@@ -240,11 +242,11 @@ module _ {w : ℕ} {e q : Bytes} {r n : ℕ} (a : Entries e r n) (p u : Bytes) (
             other m y ∙ sym (t0 .other m (λ g. y (omega arith)) ∙ t1 .other m (λ g. y (omega arith)) ∙ t2 .other m (λ g. y (omega arith)) ∙ t3 .other m (λ g. y (omega arith)))
       ]) (size ∙ sym (t0 .size))
 
-  mark-block : (x : ℕ) → x ≡ getD e j 0 → Marking w e q r n (4 * j + 4) c p → 4 * j + 4 ≤ d → c ≡ d + childCount (recordsOf 4 x) → j < length p
-      → recordsAt u (4 * j) 4 ≡ maskedAt (keptAt w p r) d (recordsOf 4 x) → ((m : ℕ) → (m / 4 ≡ j → ⊥) → recordAt u m ≡ recordAt p m) → length u ≡ length p → Marking w e q r n (4 * j) d u
+  mark-block : (x : ℕ) → x ≡ getD p j 0 → Marking w q r n (4 * j + 4) c p → 4 * j + 4 ≤ d → c ≡ d + childCount (recordsOf 4 x) → j < length p
+      → recordsAt u (4 * j) 4 ≡ maskedAt (keptAt w p r) d (recordsOf 4 x) → ((m : ℕ) → (m / 4 ≡ j → ⊥) → recordAt u m ≡ recordAt p m) → length u ≡ length p → Marking w q r n (4 * j) d u
   unfolding recordsAt tabulate recordsOf maskedAt childCount
   mark-block x ex v hd hc room here other size =
-      let run : recordsAt e (4 * j) 4 ≡ recordsOf 4 x = byte-run e j ∙ ap (recordsOf 4) (sym ex) in
+      let run : recordsAt q (4 * j) 4 ≡ recordsOf 4 x = tabulate-ext (λ k. recordAt q (4 * j + k)) (λ k. recordAt p (4 * j + k)) 4 (λ k h. sym (v .front (4 * j + k) (omega arith))) ∙ byte-run p j ∙ ap (recordsOf 4) (sym ex) in
       four-steps (x / 4 / 4 / 4 % 4) (x / 4 / 4 % 4) (x / 4 % 4) (x % 4) (omega arith) (omega arith) (omega arith) (omega arith)
       (sym (ap (λ l. getD l 0 emptyRecord) run)) (sym (ap (λ l. getD l 1 emptyRecord) run)) (sym (ap (λ l. getD l 2 emptyRecord) run)) (sym (ap (λ l. getD l 3 emptyRecord) run)) v hd
       (hc ∙ sums d (children (recordOfCode (x / 4 / 4 / 4 % 4))) (children (recordOfCode (x / 4 / 4 % 4))) (children (recordOfCode (x / 4 % 4))) (children (recordOfCode (x % 4)))) room
@@ -253,11 +255,11 @@ module _ {w : ℕ} {e q : Bytes} {r n : ℕ} (a : Entries e r n) (p u : Bytes) (
       sums : (d a b c e : ℕ) → d + (a + (b + (c + (e + 0)))) ≡ d + a + b + c + e
       sums d a b c e = omega arith
 
-pub marked-byte : {w : ℕ} {e q : Bytes} {r n : ℕ} → Entries e r n → (p : Bytes) (i c k x t z : ℕ) → 0 < i → x ≡ getD e ((i - 1) / 4) 0 → Marking w e q r n i c p
+pub marked-byte : {w : ℕ} {q : Bytes} {r n : ℕ} → Entries q r n → (p : Bytes) (i c k x t z : ℕ) → 0 < i → x ≡ getD p ((i - 1) / 4) 0 → Marking w q r n i c p
     → MarkRoom w r i k c (length p) → k ≡ childCount (recordsOf 4 x) → (i - 1) / 4 < length p → t ≡ cond (ltb (c - k) r) 0 w
     → recordsOf 4 z ≡ maskedAt (λ m. keptBy t (recordAt p m)) (c - k) (recordsOf 4 x)
-    → Marking w e q r n (i - 4) (c - k) (set p ((i - 1) / 4) z)
-marked-byte {w} {e} {q} {r} {n} a p i c k x t z h ex v m ek room et ez =
+    → Marking w q r n (i - 4) (c - k) (set p ((i - 1) / 4) z)
+marked-byte {w} {q} {r} {n} a p i c k x t z h ex v m ek room et ez =
     let j : ℕ = (i - 1) / 4 in
     let u : Bytes = set p j z in
     let y4 : i ≡ 4 * j + 4 = omega (arith, m .whole) in

@@ -18,6 +18,7 @@ use Rattle.loes.proofs.Lists.{bits-append, length-bits, ones-append, getD-map-i
 use Rattle.loes.proofs.Tree.{inhabited, prefixCount, length-members, prefixesBefore, before-smaller, members-at, index-lt}
 use Rattle.loes.proofs.Navigation.{recordsBefore, length-edgesBefore, ones-edgesBefore, present-is}
 use Rattle.loes.proofs.Bytes.{getD-tabulate, length-tabulate}
+use Rattle.loes.proofs.Bits.{length-bitsIn}
 use Rattle.loes.proofs.Extensional.{Agree, edges-ext, members-ext}
 use Rattle.loes.proofs.Forest.{NoEmpty}
 use Rattle.records.specs.Records.{emptyRecord, hasEdge, children, childrenBefore, recordAt, recordsTo, Flag, flagAt, flagsFrom, isFlag, Written}
@@ -26,7 +27,6 @@ use Rattle.restrict.specs.Restriction.{differenceOf, restricted, flagMas
 use Rattle.records.proofs.Codes.{records-more, length-records}
 use Rattle.merge.proofs.Merging.{treeLevels, edges-levels}
 use Rattle.merge.proofs.Held.{RecordsHeld, held-records, held-length, some-records, edges-records}
-use Rattle.records.proofs.Sealing.{written-bits, written-room}
 use Rattle.restrict.proofs.Restricting.{within, edge-children, no-empty-levels, restrict-edges, mask-members}
 
 -- ---- Every entry but the first is led to by an edge
@@ -65,34 +65,34 @@ held-entries {m} {s} {l} {r} p h n e =
     }
 
 -- ---- What is left is the subset's edges
-pub marked-edges : (e : Entry) {w : ℕ} {l q p : Bytes} {r n : ℕ} → RecordsHeld (e .width) (e .set) l r → n ≡ count e → Marked w l q r n p
+pub marked-edges : (e : Entry) {w : ℕ} {q p : Bytes} {r n : ℕ} → RecordsHeld (e .width) (e .set) q r → n ≡ count e → Marked w q r n p
     → recordBits (filter hasEdge (recordsTo p r)) ≡ edgesOf (restricted (flagMask w q r) e)
 unfolding edgesOf restricted withSet keysOf
-marked-edges e {w} {l} {q} {p} {r} {n} h c v =
+marked-edges e {w} {q} {p} {r} {n} h c v =
     let f : Key → Bool = λ k. flagMask w q r (smaller k (keysOf e)) in
     let k : tabulate (flagMask w q r) n ≡ map f (keysOf e) = rw c (sym (mask-members e (flagMask w q r))) in
     rw (v .out, h .records, k) (restrict-edges (e .width) (e .set) f)
     ∙ edges-ext (e .width) (within (e .set) f) (restricted (flagMask w q r) e .set) (λ j g. unfold within in refl)
 
 -- ---- Of flagged edge bytes
-module _ {m b n : ℕ} {l q : Bytes} (h : Flagged m b n l q) where
-  pub flagged-entries : Entries l (b / 2) n
+module _ {m b n : ℕ} {q : Bytes} (h : Flagged m b n q) where
+  pub flagged-entries : Entries q (b / 2) n
   unfolding count keysOf held followed
-  flagged-entries = held-entries (h .positive) (held-records m b l (h .room) (h .same)) n (h .members)
+  flagged-entries = held-entries (h .positive) (held-records m b q (h .room) (h .same)) n (h .members)
 
-  flagged-held : RecordsHeld (held m b l .width) (held m b l .set) l (b / 2)
+  flagged-held : RecordsHeld (held m b q .width) (held m b q .set) q (b / 2)
   unfolding held followed
-  flagged-held = held-records m b l (h .room) (h .same)
+  flagged-held = held-records m b q (h .room) (h .same)
 
-  pub flagged-edges : {w : ℕ} {p : Bytes} → Marked w l q (b / 2) n p → recordBits (filter hasEdge (recordsTo p (b / 2))) ≡ edgesOf (restricted (flagMask w q (b / 2)) (held m b l))
-  flagged-edges v = marked-edges (held m b l) flagged-held (h .members) v
+  pub flagged-edges : {w : ℕ} {p : Bytes} → Marked w q (b / 2) n p → recordBits (filter hasEdge (recordsTo p (b / 2))) ≡ edgesOf (restricted (flagMask w q (b / 2)) (held m b q))
+  flagged-edges v = marked-edges (held m b q) flagged-held (h .members) v
 
-  pub flagged-count : {w : ℕ} {p : Bytes} → Marked w l q (b / 2) n p → edgeCount (restricted (flagMask w q (b / 2)) (held m b l)) ≡ 2 * length (filter hasEdge (recordsTo p (b / 2)))
+  pub flagged-count : {w : ℕ} {p : Bytes} → Marked w q (b / 2) n p → edgeCount (restricted (flagMask w q (b / 2)) (held m b q)) ≡ 2 * length (filter hasEdge (recordsTo p (b / 2)))
   unfolding edgeCount
   flagged-count {p} v = ap length (sym (flagged-edges v)) ∙ length-bits (filter hasEdge (recordsTo p (b / 2)))
 
-  pub flagged-restricted : {w : ℕ} {p o u : Bytes} {k : ℕ} → Marked w l q (b / 2) n p → Written (recordBits (filter hasEdge (recordsTo p (b / 2)))) o u k → k ≤ 2 * (b / 2)
-      → Restricted (flagMask w q (b / 2)) (held m b l) (b / 2) q o p u k
+  pub flagged-restricted : {w : ℕ} {p o u : Bytes} {k : ℕ} → Marked w q (b / 2) n p → Written (recordBits (filter hasEdge (recordsTo p (b / 2)))) o u k → k ≤ 2 * (b / 2)
+      → Restricted (flagMask w q (b / 2)) (held m b q) (b / 2) q o p u k
   flagged-restricted v c g =
       record { edges = rw (flagged-edges v) at c; less = g; flags = λ j i. unfold flagAt in rw (v .other j i); queue = v .size }
 
@@ -110,20 +110,23 @@ fewer-edges m s p =
     (omega (arith, length-filter hasEdge k, length-from 1 l (map p (members m s))))
 
 -- ---- A merge's flags and edges
-module _ {e f : Entry} {q o p u : Bytes} {b n : ℕ} (v : Merged e f q o p u b n) where
+module _ {e f : Entry} {q p : Bytes} {b n : ℕ} (v : Merged e f q p b n) where
   pub merged-count : n ≡ count (unionOf e f)
   unfolding count flagsFrom
   merged-count = sym (length-tabulate (λ k. flagAt p (b / 2 + k)) n) ∙ ap length (v .flags) ∙ rw length-map
 
-  pub merged-held : RecordsHeld (e .width) (either (e .set) (f .set)) u (b / 2)
+  merged-even : 2 * (b / 2) ≡ b
   unfolding edgesOf withSet
-  merged-held =
+  merged-even =
       let s : KeySet = either (e .set) (f .set) in
-      let z : b ≡ 2 * length (treeLevels (e .width) 0 (e .width) s) = v .edges .count ∙ ap length (edges-levels (e .width) s) ∙ length-bits (treeLevels (e .width) 0 (e .width) s) in
-      let y : 2 * (b / 2) ≡ b = omega arith in
-      record { records = edges-records (e .width) s u (b / 2) (rw y (written-bits (v .edges))); fits = omega (arith, written-room (v .edges)) }
+      let z : b ≡ 2 * length (treeLevels (e .width) 0 (e .width) s) = sym (length-bitsIn p b) ∙ ap length (v .edges ∙ edges-levels (e .width) s) ∙ length-bits (treeLevels (e .width) 0 (e .width) s) in
+      omega arith
 
-  pub merged-entries : 0 < e .width → Entries u (b / 2) n
+  pub merged-held : RecordsHeld (e .width) (either (e .set) (f .set)) p (b / 2)
+  unfolding edgesOf withSet
+  merged-held = record { records = edges-records (e .width) (either (e .set) (f .set)) p (b / 2) (rw merged-even (v .edges)); fits = omega (arith, v .fits) }
+
+  pub merged-entries : 0 < e .width → Entries p (b / 2) n
   unfolding count keysOf withSet
   merged-entries h = held-entries h merged-held n merged-count
 
@@ -165,12 +168,12 @@ first-only s t k = go (s k) (t k)
     go false true = refl
     go false false = refl
 
-pub difference-edges : {e f : Entry} {q o p u : Bytes} {b n : ℕ} → Merged e f q o p u b n → edgesOf (restricted (flagMask 1 p (b / 2)) (unionOf e f)) ≡ edgesOf (differenceOf e f)
+pub difference-edges : {e f : Entry} {q p : Bytes} {b n : ℕ} → Merged e f q p b n → edgesOf (restricted (flagMask 1 p (b / 2)) (unionOf e f)) ≡ edgesOf (differenceOf e f)
 unfolding edgesOf withSet restricted
 difference-edges {e} {f} {p} {b} v =
     edges-ext (e .width) (restricted (flagMask 1 p (b / 2)) (unionOf e f) .set) (without (e .set) (f .set)) (λ k l. flagged-set v 1 k l ∙ first-only (e .set) (f .set) k)
 
-pub subtracted : {e f : Entry} {q o p u x : Bytes} {b n : ℕ} → Merged e f q o p u b n → Marked 1 u p (b / 2) n x → recordBits (filter hasEdge (recordsTo x (b / 2))) ≡ edgesOf (differenceOf e f)
+pub subtracted : {e f : Entry} {q p x : Bytes} {b n : ℕ} → Merged e f q p b n → Marked 1 p (b / 2) n x → recordBits (filter hasEdge (recordsTo x (b / 2))) ≡ edgesOf (differenceOf e f)
 unfolding withSet
 subtracted {e} {f} v w = marked-edges (unionOf e f) (merged-held v) (merged-count v) w ∙ difference-edges v
 
@@ -181,11 +184,11 @@ difference-fewer e f =
     rw (edges-ext (e .width) (without (e .set) (f .set)) (within (e .set) p) (λ k l. unfold without within in refl)) (fewer-edges (e .width) (e .set) p)
 
 -- the difference, of a first set in x bits
-pub subtract-entries : {m x : ℕ} {a : Bytes} {f : Entry} {q o p u : Bytes} {b n : ℕ} → Holds m x a → Merged (held m x a) f q o p u b n → Entries u (b / 2) n
+pub subtract-entries : {m x : ℕ} {a : Bytes} {f : Entry} {q p : Bytes} {b n : ℕ} → Holds m x a → Merged (held m x a) f q p b n → Entries p (b / 2) n
 unfolding held followed
 subtract-entries h v = merged-entries v (h .positive)
 
-module _ {m x : ℕ} {a : Bytes} {f : Entry} {q o p u z : Bytes} {b n : ℕ} (h : Holds m x a) (v : Merged (held m x a) f q o p u b n) (w : Marked 1 u p (b / 2) n z) where
+module _ {m x : ℕ} {a : Bytes} {f : Entry} {q p z : Bytes} {b n : ℕ} (h : Holds m x a) (v : Merged (held m x a) f q p b n) (w : Marked 1 p (b / 2) n z) where
   first-count : edgeCount (held m x a) ≡ x
   unfolding edgeCount bitsIn
   first-count = ap length (h .same) ∙ length-tabulate (bitAt a) x
@@ -196,31 +199,30 @@ module _ {m x : ℕ} {a : Bytes} {f : Entry} {q o p u z : Bytes} {b n : ℕ} (h 
       let l : List Record = filter hasEdge (recordsTo z (b / 2)) in
       omega (arith, length-bits l, ap length (subtracted v w), difference-fewer (held m x a) f, first-count)
 
-  pub subtract-done : {y : Bytes} {k : ℕ} → Written (recordBits (filter hasEdge (recordsTo z (b / 2)))) u y k → Written (edgesOf (differenceOf (held m x a) f)) o y k × (k ≤ x)
+  pub subtract-done : {o y : Bytes} {k : ℕ} → Written (recordBits (filter hasEdge (recordsTo z (b / 2)))) o y k → Written (edgesOf (differenceOf (held m x a) f)) o y k × (k ≤ x)
   subtract-done c =
       let g : recordBits (filter hasEdge (recordsTo z (b / 2))) ≡ edgesOf (differenceOf (held m x a) f) = subtracted v w in (
-        record { count = c .count ∙ ap length g; bytes = c .bytes ∙ ap packBits g; size = c .size ∙ v .edges .size },
+        record { count = c .count ∙ ap length g; bytes = c .bytes ∙ ap packBits g; size = c .size },
         omega (arith, c .count, length-bits (filter hasEdge (recordsTo z (b / 2))), subtracted-count),
       )
 
 -- ---- A merge can be restricted
-same-set : (e : Entry) {o p : Bytes} {b : ℕ} → Written (edgesOf e) o p b → 0 < e .width → Agree (e .width) (held (e .width) b p .set) (e .set)
+same-set : (e : Entry) (p : Bytes) (b : ℕ) → bitsIn p b ≡ edgesOf e → 0 < e .width → Agree (e .width) (held (e .width) b p .set) (e .set)
 unfolding edgesOf held followed ofWidth
-same-set e w h k l = rw (written-bits w, l, eq-yes (e .width)) (present-is k (e .width) (e .set) l h)
+same-set e p b w h k l = rw (w, l, eq-yes (e .width)) (present-is k (e .width) (e .set) l h)
 
-same-edges : (e : Entry) {o p : Bytes} {b : ℕ} → Written (edgesOf e) o p b → 0 < e .width → edgesOf (held (e .width) b p) ≡ bitsIn p b
+same-edges : (e : Entry) (p : Bytes) (b : ℕ) → bitsIn p b ≡ edgesOf e → 0 < e .width → edgesOf (held (e .width) b p) ≡ bitsIn p b
 unfolding edgesOf held followed
-same-edges e {o} {p} {b} w h =
-    edges-ext (e .width) (held (e .width) b p .set) (e .set) (same-set e (unfold edgesOf in w) h) ∙ sym (written-bits w)
+same-edges e p b w h = edges-ext (e .width) (held (e .width) b p .set) (e .set) (same-set e p b (unfold edgesOf in w) h) ∙ sym w
 
-pub merged-flagged : {e f : Entry} {q o p u : Bytes} {b n : ℕ} → Merged e f q o p u b n → 0 < e .width → length q ≤ maxEdges → Flagged (e .width) b n u p
+pub merged-flagged : {e f : Entry} {q p : Bytes} {b n : ℕ} → Merged e f q p b n → 0 < e .width → length q ≤ maxEdges → Flagged (e .width) b n p
 unfolding count keysOf withSet held followed
-merged-flagged {e} {f} {p} {u} {b} v h l =
+merged-flagged {e} {f} {p} {b} v h l =
     record {
       positive = h;
-      same = same-edges (unionOf e f) (v .edges) h;
-      room = written-room (v .edges);
-      members = merged-count v ∙ ap length (sym (members-ext (e .width) (held (e .width) b u .set) (either (e .set) (f .set)) (same-set (unionOf e f) (v .edges) h)));
+      same = same-edges (unionOf e f) p b (v .edges) h;
+      room = omega (arith, v .fits, merged-even v);
+      members = merged-count v ∙ ap length (sym (members-ext (e .width) (held (e .width) b p .set) (either (e .set) (f .set)) (same-set (unionOf e f) p b (v .edges) h)));
       flags = v .fits;
-      small = rw (v .queue) l;
+      small = rw (v .size) l;
     }

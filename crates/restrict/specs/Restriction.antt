@@ -26,12 +26,12 @@ differenceOf e f = withSet e (without (e .set) (f .set))
 unfoldable pub flagMask : ℕ → Bytes → ℕ → ℕ → Bool
 flagMask w q r i = isFlag w (flagAt q (r + i))
 
--- edge bytes, of any number of bits, that hold an entry of n members, whose flags stand in q behind one place for each record
-pub record Flagged (m b n : ℕ) (l q : Bytes) : Type 0 where
+-- b edge bits, any number, that hold an entry of n members, whose flags stand behind its records
+pub record Flagged (m b n : ℕ) (q : Bytes) : Type 0 where
   pub positive : 0 < m
-  pub same : edgesOf (held m b l) ≡ bitsIn l b
-  pub room : b ≤ 8 * length l
-  pub members : n ≡ count (held m b l)
+  pub same : edgesOf (held m b q) ≡ bitsIn q b
+  pub room : b ≤ 8 * length q
+  pub members : n ≡ count (held m b q)
   pub flags : b / 2 + n ≤ 4 * length q
   pub small : length q ≤ maxEdges
 
@@ -57,7 +57,7 @@ maskedFrom h [] p = []
 maskedFrom h (r ∷ l) p =
     maskRecord r (drop (h - 1) (map hasEdge (maskedFrom (h - 1 + children r) l p) ++ p)) ∷ maskedFrom (h - 1 + children r) l p
 
--- ---- In bytes: the masked records take the first r places of the queue, in front of the members' flags
+-- ---- In bytes: the masked records take the places of the r records, in front of the members' flags
 -- entry j is kept: a record with an edge left, or a member whose flag is w
 unfoldable pub keptAt : ℕ → Bytes → ℕ → ℕ → Bool
 keptAt w q r j = cond (ltb j r) (hasEdge (recordAt q j)) (isFlag w (flagAt q j))
@@ -73,8 +73,8 @@ pub record RecordMarked (w : ℕ) (q : Bytes) (r x i c : ℕ) (p : Bytes) : Type
   pub here : recordAt p i ≡ maskAt (keptAt w q r) c (recordOfCode x)
   pub other : (j : ℕ) → (j ≡ i → ⊥) → recordAt p j ≡ recordAt q j
 
-pub record Marked (w : ℕ) (e q : Bytes) (r n : ℕ) (p : Bytes) : Type 0 where
-  pub out : recordsTo p r ≡ maskedFrom 1 (recordsTo e r) (tabulate (flagMask w q r) n)
+pub record Marked (w : ℕ) (q : Bytes) (r n : ℕ) (p : Bytes) : Type 0 where
+  pub out : recordsTo p r ≡ maskedFrom 1 (recordsTo q r) (tabulate (flagMask w q r) n)
   pub other : (j : ℕ) → r ≤ j → recordAt p j ≡ recordAt q j
   pub size : length p ≡ length q
 

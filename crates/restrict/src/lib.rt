@@ -1,9 +1,9 @@
 // The edge bytes of a subset: the edges that lead to no kept member are dropped, from the last to the first, then the empty records.
-ghost use Prim.Native.Nat.{_+_, _*_, _/_, _%_, _<_, _≤_};
+ghost use Prim.Native.Nat.{_+_, _-_, _*_, _/_, _%_, _<_, _≤_};
 ghost use mathlib.Core.Path.{_≡_};
 ghost use mathlib.Core.Bool.{true, _&&_, cond};
 ghost use mathlib.Core.List.{_++_, map};
-ghost use lib.ListN.{length};
+ghost use lib.ListN.{length, getD};
 ghost use lib.Dec.{ltb, eqb};
 ghost use Rattle.loes.specs.Limits.{maxEdges};
 ghost use Rattle.loes.specs.Bytes.{odd, bit};
@@ -14,7 +14,7 @@ ghost use Rattle.loes.specs.Held.{held, Holds};
 ghost use Rattle.records.specs.Records.{recordOfCode, recordAt, recordsTo, hasEdge, Written};
 ghost use Rattle.records.specs.Numbers.{recordsOf, bitsOf, Short, overread};
 ghost use Rattle.records.specs.Tables.{spread, byEdge, keptBy, Spreads, Parted, Runs, TablesLent};
-ghost use Rattle.merge.specs.Union.{Room};
+ghost use Rattle.merge.specs.Union.{QueueRoom};
 ghost use Rattle.restrict.specs.Restriction.{restricted, differenceOf, flagMask, Flagged, Restricted, keptAt, maskedAt, childCount, Entries, RecordMarked, MarkRoom, Marked, BlockCompacted, Compacted};
 use records::Run;
 
@@ -72,14 +72,6 @@ fn edges_in(parts: &[u32], x: u8) -> usize
     h.first + h.second
 }
 
-// The same if tables are lent, else 0.
-fn edges_if(tables: usize, parts: &[u32], x: u8) -> usize
-    requires { ⌜ (0 < tables → Parted (now parts)) ⌝ }
-    ensures { λ r. ⌜ (0 < tables → r ≡ childCount (recordsOf 4 x)) × (r ≤ 8) ⌝ }
-{
-    if tables > 0 { edges_in(parts, x) } else { 0 }
-}
-
 // Two records in x, less the edges whose entries in v, taken in order, fail test w.
 fn mark_half(spreads: &[u8], parts: &[u32], w: usize, x: usize, v: usize) -> usize
     requires { ⌜ Spreads (now spreads) × Parted (now parts) × (w < 4) × (x < 16) × (v < 256) ⌝ }
@@ -124,14 +116,11 @@ fn test_at(d: usize, r: usize, w: u8) -> usize
     if d < r { BY_EDGE } else { w as usize }
 }
 
-// Whether a byte of k edges can be marked: tables are lent, the first i records end with its four, the k entries before c stand
-// behind them, all of them records, or members, and there are the bytes that are read.
-fn has_mark(tables: usize, w: u8, r: usize, i: usize, k: usize, c: usize, l: usize) -> bool
-    ensures { λ t. ⌜ (t ≡ true → (0 < tables) × MarkRoom w r i k c l) ⌝ }
+// Whether a byte of k edges can be marked whole: the first i records end with its four, the k entries before c stand behind them, all of
+// them records, or members, and there are the bytes that are read.
+fn has_mark(w: u8, r: usize, i: usize, k: usize, c: usize, l: usize) -> bool
+    ensures { λ t. ⌜ (t ≡ true → MarkRoom w r i k c l) ⌝ }
 {
-    if tables == 0 {
-        return false;
-    }
     if i % 4 > 0 {
         return false;
     }
@@ -156,27 +145,26 @@ fn has_mark(tables: usize, w: u8, r: usize, i: usize, k: usize, c: usize, l: usi
     d / 4 + 3 < l
 }
 
-// The r records of e less the edges under which no member has flag w, from the last to the first, in the first r places of q.
-fn mark(e: &[u8], spreads: &[u8], parts: &[u32], q: &mut [u8], r: usize, n: usize, w: u8)
-    requires { ⌜ (r ≤ 4 * length (now e)) × (r + n ≤ 4 * length (now q)) × (length (now q) ≤ maxEdges) ⌝ }
-    requires { ⌜ Entries (now e) r n ⌝ }
-    requires { ⌜ (0 < length (now spreads) → Spreads (now spreads) × Parted (now parts)) ⌝ }
-    ensures { λ _. ⌜ Marked w (now (e .entry)) (now (q .entry)) r n (now (q .exit)) ⌝ }
+// The first r records of q less the edges under which no member has flag w, from the last to the first, in their place: by bytes where it can be.
+fn mark_bytes(spreads: &[u8], parts: &[u32], q: &mut [u8], r: usize, n: usize, w: u8)
+    requires { ⌜ (r + n ≤ 4 * length (now q)) × (length (now q) ≤ maxEdges) × Entries (now q) r n ⌝ }
+    requires { ⌜ Spreads (now spreads) × Parted (now parts) ⌝ }
+    ensures { λ _. ⌜ Marked w (now (q .entry)) r n (now (q .exit)) ⌝ }
 {
     let mut i = r;
     let mut c = r + n;
     while i > 0 {
         let j = i - 1;
-        let y = e[j / 4];
-        let k = edges_if(spreads.len(), parts, y);
-        if has_mark(spreads.len(), w, r, i, k, c, q.len()) {
+        let y = q[j / 4];
+        let k = edges_in(parts, y);
+        if has_mark(w, r, i, k, c, q.len()) {
             let d = c - k;
             let z = mark_byte(q, spreads, parts, test_at(d, r, w), y, d);
             q[j / 4] = z as u8;
             c = d;
             i -= 4;
         } else {
-            let x = records::record_at(e, j);
+            let x = records::record_at(q, j);
             let d = c - (x / 2 + x % 2) as usize;
             mark_record(q, r, w, x, j, d);
             c = d;
@@ -185,10 +173,52 @@ fn mark(e: &[u8], spreads: &[u8], parts: &[u32], q: &mut [u8], r: usize, n: usiz
     }
 }
 
+// The byte of record i - 1, if there is one.
+fn byte_before(q: &[u8], i: usize) -> u8
+    requires { ⌜ (0 < i → (i - 1) / 4 < length (now q)) ⌝ }
+    ensures { λ y. ⌜ (0 < i → y ≡ getD (now (q .entry)) ((i - 1) / 4) 0) ⌝ }
+{
+    if i > 0 { q[(i - 1) / 4] } else { 0 }
+}
+
+// The same record by record. Each byte is read before it is changed, so that no record waits for the one behind it.
+fn mark_singly(q: &mut [u8], r: usize, n: usize, w: u8)
+    requires { ⌜ (r + n ≤ 4 * length (now q)) × (length (now q) ≤ maxEdges) × Entries (now q) r n ⌝ }
+    ensures { λ _. ⌜ Marked w (now (q .entry)) r n (now (q .exit)) ⌝ }
+{
+    let mut i = r;
+    let mut c = r + n;
+    let mut y = byte_before(q, i);
+    while i > 0 {
+        let j = i - 1;
+        let x = records::record_in(y, j % 4);
+        let d = c - (x / 2 + x % 2) as usize;
+        mark_record(q, r, w, x, j, d);
+        c = d;
+        i = j;
+        if j % 4 == 0 {
+            y = byte_before(q, j);
+        }
+    }
+}
+
+// The same, by bytes if tables are lent.
+fn mark(spreads: &[u8], parts: &[u32], q: &mut [u8], r: usize, n: usize, w: u8)
+    requires { ⌜ (r + n ≤ 4 * length (now q)) × (length (now q) ≤ maxEdges) × Entries (now q) r n ⌝ }
+    requires { ⌜ (0 < length (now spreads) → Spreads (now spreads) × Parted (now parts)) ⌝ }
+    ensures { λ _. ⌜ Marked w (now (q .entry)) r n (now (q .exit)) ⌝ }
+{
+    if spreads.len() > 0 {
+        mark_bytes(spreads, parts, q, r, n, w);
+    } else {
+        mark_singly(q, r, n, w);
+    }
+}
+
 // The records of a byte that have an edge.
 fn byte_run(parts: &[u32], runs: &[u16], x: u8) -> Run
     requires { ⌜ Parted (now parts) × Runs (now runs) ⌝ }
-    ensures { λ r. ⌜ (recordsOf (r .count) (r .records) ≡ filter hasEdge (recordsOf 4 x)) × Short 4 (r .records) (r .count) ⌝ }
+    ensures { λ r. ⌜ (recordsOf (r .bits / 2) (r .records) ≡ filter hasEdge (recordsOf 4 x)) × Short 4 (r .records) (r .bits) ⌝ }
 {
     let f = records::parts_at(parts, x);
     records::run_at(runs, f.firsts, f.seconds)
@@ -197,7 +227,7 @@ fn byte_run(parts: &[u32], runs: &[u16], x: u8) -> Run
 // The same of two bytes.
 fn bytes_run(parts: &[u32], runs: &[u16], x: u8, y: u8) -> Run
     requires { ⌜ Parted (now parts) × Runs (now runs) ⌝ }
-    ensures { λ r. ⌜ (recordsOf (r .count) (r .records) ≡ filter hasEdge (recordsOf 4 x ++ recordsOf 4 y)) × Short 8 (r .records) (r .count) ⌝ }
+    ensures { λ r. ⌜ (recordsOf (r .bits / 2) (r .records) ≡ filter hasEdge (recordsOf 4 x ++ recordsOf 4 y)) × Short 8 (r .records) (r .bits) ⌝ }
 {
     let h = byte_run(parts, runs, x);
     let g = byte_run(parts, runs, y);
@@ -209,7 +239,7 @@ const MOVED: usize = 16;
 
 // Whether the records of four bytes can be moved: tables are lent, the next n records begin with theirs, and there is room behind the first k of l bytes.
 fn has_run(tables: usize, i: usize, n: usize, k: usize, l: usize) -> bool
-    ensures { λ r. ⌜ (r ≡ true → (0 < tables) × (i % 4 ≡ 0) × (16 ≤ n) × (k / 4 + 4 < l)) ⌝ }
+    ensures { λ r. ⌜ (r ≡ true → (0 < tables) × (i % 4 ≡ 0) × (16 ≤ n) × (k / 4 + 7 < l)) ⌝ }
 {
     if n < MOVED {
         return false;
@@ -220,18 +250,18 @@ fn has_run(tables: usize, i: usize, n: usize, k: usize, l: usize) -> bool
     if tables == 0 {
         return false;
     }
-    k / 4 + 4 < l
+    k / 4 + 7 < l
 }
 
 // The records of the four bytes from byte j of q on that have an edge, put behind the first k.
 fn compact_block(q: &[u8], parts: &[u32], runs: &[u16], j: usize, out: &mut [u8], k: usize) -> usize
-    requires { ⌜ (j + 3 < length (now q)) × (k / 4 + 4 < length (now out)) × (k ≤ 4 * maxEdges) × Parted (now parts) × Runs (now runs) ⌝ }
+    requires { ⌜ (j + 3 < length (now q)) × (k / 4 + 7 < length (now out)) × (k ≤ 4 * maxEdges) × Parted (now parts) × Runs (now runs) ⌝ }
     ensures { λ r. ⌜ BlockCompacted (now (q .entry)) j (now (out .entry)) k (now (out .exit)) r ⌝ }
 {
     let h = bytes_run(parts, runs, q[j], q[j + 1]);
     let g = bytes_run(parts, runs, q[j + 2], q[j + 3]);
     let c = records::run_and(h, g);
-    let n = c.count;
+    let n = c.bits / 2;
     records::append(out, k, c);
     k + n
 }
@@ -268,10 +298,9 @@ fn collect(q: &[u8], spreads: &[u8], parts: &[u32], runs: &[u16], r: usize, out:
     2 * k
 }
 
-// The edges of the members whose flag is w, of a set of m bits with b edges in e; the flags of its n members stand in q from place b / 2 on.
+// The edges of the members whose flag is w, of a set of m bits whose b edges stand in front of q, and the flags of its n members behind them.
 pub fn restrict(
     m: usize,
-    e: &[u8],
     b: usize,
     n: usize,
     w: u8,
@@ -281,13 +310,13 @@ pub fn restrict(
     q: &mut [u8],
     out: &mut [u8],
 ) -> usize
-    requires { ⌜ Flagged m b n (now e) (now q) ⌝ }
+    requires { ⌜ Flagged m b n (now q) ⌝ }
     requires { ⌜ TablesLent (now spreads) (now parts) (now runs) ⌝ }
-    requires { ⌜ edgeCount (restricted (flagMask w (now q) (b / 2)) (held m b (now e))) < 8 * length (now out) ⌝ }
-    ensures { λ k. ⌜ Restricted (flagMask w (now (q .entry)) (b / 2)) (held m b (now (e .entry))) (b / 2) (now (q .entry)) (now (out .entry)) (now (q .exit)) (now (out .exit)) k ⌝ }
+    requires { ⌜ edgeCount (restricted (flagMask w (now q) (b / 2)) (held m b (now q))) < 8 * length (now out) ⌝ }
+    ensures { λ k. ⌜ Restricted (flagMask w (now (q .entry)) (b / 2)) (held m b (now (q .entry))) (b / 2) (now (q .entry)) (now (out .entry)) (now (q .exit)) (now (out .exit)) k ⌝ }
 {
     let r = b / 2;
-    mark(e, spreads, parts, q, r, n, w);
+    mark(spreads, parts, q, r, n, w);
     collect(q, spreads, parts, runs, r, out)
 }
 
@@ -296,7 +325,7 @@ pub fn restrict(
 // The flag of the members that only the first set has.
 const FIRST_ONLY: u8 = 1;
 
-// The edges of the difference of two sets of m bits: the merge, restricted in place.
+// The edges of the difference of two sets of m bits: the merge, restricted.
 pub fn subtract(
     m: usize,
     a: &[u8],
@@ -312,12 +341,12 @@ pub fn subtract(
     requires { ⌜ Holds m ba (now a) × (ba / 2 + overread ≤ 4 * length (now a)) ⌝ }
     requires { ⌜ Holds m bb (now b) × (bb / 2 + overread ≤ 4 * length (now b)) ⌝ }
     requires { ⌜ TablesLent (now spreads) (now parts) (now runs) ⌝ }
-    requires { ⌜ Room ba bb (now q) (now out) ⌝ }
+    requires { ⌜ QueueRoom ba bb (now q) × (ba < 8 * length (now out)) ⌝ }
     ensures { λ k. ⌜ Written (edgesOf (differenceOf (held m ba (now (a .entry))) (held m bb (now (b .entry))))) (now (out .entry)) (now (out .exit)) k × (k ≤ ba) ⌝ }
 {
-    let u = merge::merge(m, a, ba, b, bb, spreads, parts, runs, q, out);
+    let u = merge::merge(m, a, ba, b, bb, spreads, parts, runs, q);
     let r = u.edges / 2;
     let n = u.members;
-    mark(out, spreads, parts, q, r, n, FIRST_ONLY);
+    mark(spreads, parts, q, r, n, FIRST_ONLY);
     collect(q, spreads, parts, runs, r, out)
 }

@@ -1,11 +1,12 @@
 use denote.Ref.{now}
 use native.Mathlib.Omega.{arith}
-use native.Mathlib.Decide.{decLe}
+use native.Mathlib.Decide.{decLe, ℕ-discrete}
 use mathlib.Core.Bool.{Bool}
 use mathlib.Core.Path.{_≡_, refl, sym, ap, _∙_}
 use Prim.Native.Nat.{ℕ, suc, _+_, _-_, _*_, _/_, _%_, _<_, _≤_}
 use mathlib.Core.List.{List, _∷_, _++_}
-use lib.ListN.{length}
+use lib.ListN.{length, set, length-set}
+use lib.Seq.{getD-set-same, getD-set-other}
 use borrow.Author.Needs.{needs}
 use Rattle.loes.specs.Limits.{subBlockBits}
 use Rattle.loes.specs.Bytes.{Bytes, started, tabulate, bigEndian, bigEndians, bitsIn, front}
@@ -13,7 +14,7 @@ use Rattle.loes.specs.Edges.{ones, onesBefore}
 use Rattle.loes.specs.Encode.{field, blockOnes, subBlockOnes}
 use Rattle.loes.proofs.Bytes.{length-bigEndian, length-bigEndians}
 use Rattle.encoding.proofs.Index.{sub-block-start}
-use Rattle.build.specs.Writing.{Counts}
+use Rattle.build.specs.Writing.{Counts, maxBlocks, Based}
 use Rattle.build.proofs.Front.{front-start, length-front, numbers-now, numbers-room, numbers-more, numbers-field, field-long}
 use Rattle.build.proofs.Shape.{before-value, first-sub}
 use Rattle.build.proofs.put_sub_blocks.Statement.{statement}
@@ -26,16 +27,17 @@ abbrev head : ℕ → Bytes
 head b = 6 ∷ bigEndian 2 (2 * subs b)
 
 abbrev Inv-loop : tie.InvT-loop
-Inv-loop out₀ edges t b subs seen₀ base₀ j₀ out seen base j =
+Inv-loop out₀ edges t b bases₀ subs seen₀ base₀ j₀ out bases seen base j =
     (Counts edges seen × (seen .bytes ≤ 64 * j) × (j ≤ subs)) × (out ≡ front (head b ++ bigEndians 2 (subBlockOnes (bitsIn edges b)) j) out₀)
     × ((j % 128 ≡ 0 → ⊥) → base ≡ blockOnes (bitsIn edges b) (j / 128))
+    × (length bases ≡ maxBlocks) × Based (bitsIn edges b) ((j + 127) / 128) bases
 
 abbrev μ-loop : tie.MeasureT-loop
-μ-loop out₀ edges t b subs seen₀ base₀ j₀ out seen base j = subs - j
+μ-loop out₀ edges t b bases₀ subs seen₀ base₀ j₀ out bases seen base j = subs - j
 
 -- the function's entry, and the buffer behind the head, from the loop's test
 abbrev start : tie.At-loop Inv-loop μ-loop → tie.Start Inv-loop μ-loop
-start a = a .before .before .before .before .before .before .before .before
+start a = a .before .before .before .before .before .before .before .before .before
 
 abbrev headed : tie.At-loop Inv-loop μ-loop → Bytes
 headed a = a .before .before .before .put-head .last .0
@@ -72,14 +74,16 @@ mul-put-head : tie.Need-mul-put-head Inv-loop μ-loop
 mul-put-head c = omega arith
 
 put-head-requires : tie.Need-put-head-requires Inv-loop μ-loop
-put-head-requires c κs = omega (arith, room (c .before .before .before .before))
+put-head-requires c κs = omega (arith, room (c .before .before .before .before .before))
 
 loop-holds : tie.Need-loop-holds Inv-loop μ-loop
 loop-holds c =
-    let s = c .before .before .before .before .before .before .before in (
+    let s = c .before .before .before .before .before .before .before .before in (
       (unfold bitsIn tabulate ones in refl, omega arith, omega arith),
       front-start (head (s .args .b)) (now (s .args .out)) (c .before .before .put-head .last .0) 2 (subBlockOnes (bitsIn (now (s .args .edges)) (s .args .b))) (c .before .before .put-head .ensures),
       λ z. absurd (z refl),
+      s .pre .4,
+      λ i h. absurd (omega arith),
     )
 
 mul-count-to : tie.Need-mul-count-to Inv-loop μ-loop
@@ -122,6 +126,19 @@ module _ (c : tie.After-block-base Inv-loop μ-loop) where
   base-le : c .block-base .result ≤ c .before .count-to .result .ones
   base-le = omega (arith, counted, based, sub-block-start e (loop .loop .j))
 
+-- the base of one more block, or of the same again
+based-more : (e : List Bool) (j v : ℕ) (bases : List ℕ) → j / 128 < length bases → v ≡ blockOnes e (j / 128) → Based e ((j + 127) / 128) bases → Based e ((j + 1 + 127) / 128) (set bases (j / 128) v)
+based-more e j v bases l h k i m = elim (ℕ-discrete i (j / 128)) [
+  | yes y ↦ rw y (getD-set-same bases (j / 128) v 0 l ∙ h)
+  | no y ↦ getD-set-other bases (j / 128) i v 0 y ∙ k i (omega (arith, y))
+]
+
+mul-bases : tie.Need-mul-bases Inv-loop μ-loop
+mul-bases c = omega (arith, c .before .before .before .loop .inv .3)
+
+slice-write-bases : tie.Need-slice-write-bases Inv-loop μ-loop
+slice-write-bases c = omega (arith, c .before .before .before .loop .inv .3, start (c .before .before .before) .pre .2)
+
 mul-at : tie.Need-mul-at Inv-loop μ-loop
 mul-at c = omega arith
 
@@ -162,6 +179,8 @@ loop-again c =
       numbers-more (head (start a .args .b)) (headed a) (a .loop .out) (c .before .before .put2 .last .0) 2 (f a) (a .loop .j) (3 + 2 * a .loop .j) (size a q) (a .loop .inv .1) (fits a q)
           (k .result .ones - d .block-base .result) (difference d) (c .before .before .put2 .ensures),
       λ z. let y : (a .loop .j + 1) / 128 ≡ a .loop .j / 128 = next-block (a .loop .j) z in based d ∙ ap (blockOnes (e d)) (sym y),
+      length-set (a .loop .bases) (a .loop .j / 128) (d .block-base .result) ∙ a .loop .inv .3,
+      based-more (e d) (a .loop .j) (d .block-base .result) (a .loop .bases) (omega (arith, a .loop .inv .3, start a .pre .1, start a .pre .2, q)) (based d) (a .loop .inv .4),
     )
 
 written : (c : tie.After-loop Inv-loop μ-loop)
@@ -179,8 +198,15 @@ same-length c =
     let n = started subBlockBits (s .args .b) in
     field-long 6 (bigEndians 2 (f (c .before)) n) (now (s .args .out)) (c .before .loop .out) (written c) (omega (arith, length-bigEndians 2 (f (c .before)) n, s .pre .0))
 
+same-length-2 : tie.Need-same-length-2 Inv-loop μ-loop
+same-length-2 c = c .before .loop .inv .3 ∙ sym (start (c .before) .pre .4)
+
 returns : tie.Need-returns Inv-loop μ-loop
-returns c = written c
+unfolding started
+returns c =
+    let a = c .before in
+    let z : a .loop .j ≡ subs (start a .args .b) = omega arith in
+    (written c, λ i h. a .loop .inv .4 i (omega (arith, z)))
 
 pub put-sub-blocks-spec : {M : Type 1} → statement M
 put-sub-blocks-spec =
@@ -195,6 +221,8 @@ put-sub-blocks-spec =
     mul-count-to
     count-to-requires
     block-base-requires
+    mul-bases
+    slice-write-bases
     mul-at
     add-at
     sub-put2
@@ -206,4 +234,5 @@ put-sub-blocks-spec =
     loop-less
     loop-again
     same-length
+    same-length-2
     returns)

@@ -1,6 +1,6 @@
 use denote.Ref.{now}
-use mathlib.Core.Path.{sym, _∙_, subst}
-use Prim.Native.Nat.{_≤_}
+use mathlib.Core.Path.{sym, ap, _∙_, subst}
+use Prim.Native.Nat.{_*_, _≤_, _<_}
 use native.Mathlib.Omega.{arith}
 use lib.ListN.{length}
 use Rattle.loes.specs.Bytes.{Bytes}
@@ -8,8 +8,10 @@ use Rattle.loes.specs.Model.{refusal}
 use Rattle.encoding.specs.declared.Encoding.{Encoding}
 use Rattle.encoding.proofs.Opened.{opens-room}
 use Rattle.build.specs.Writing.{writtenOutcome}
+use Rattle.merge.specs.Union.{QueueRoom}
+use Rattle.join.specs.declared.Join.the-variants as join
 use Rattle.join.specs.declared.Pair.the-variants.{Opened}
-use Rattle.join.specs.Joining.{Both, Joined, joinOf}
+use Rattle.join.specs.Joining.{Both, joinOf, joinCall}
 use Rattle.join.proofs.Joins.{opens-short, opens-over, first-holds, second-holds, joined, joined-call}
 use borrow.Author.Needs.{needs}
 use Rattle.join.proofs.join_with.Statement.{statement}
@@ -44,6 +46,9 @@ module _ (k : tie.After-known-told2) where
   second-room : f .edges ≤ length b
   second-room = omega (arith, opens-room b f (both .1) .edges)
 
+  rooms : QueueRoom (e .bits) (f .bits) (now (start .args .q)) × (e .bits < 8 * length (now (start .args .edges)))
+  rooms = start .pre .0 .enough (e .bits) (f .bits) (opens-short a e (both .0)) (opens-room a e (both .0) .few) (opens-short b f (both .1)) (opens-room b f (both .1) .few)
+
 open-both-requires : tie.Need-open-both-requires
 open-both-requires c κs = search needs
 
@@ -53,53 +58,83 @@ enum-known-pair c = search needs
 enum-known-pair-2 : tie.Need-enum-known-pair-2
 enum-known-pair-2 c = search needs
 
-sub-joined-edges : tie.Need-sub-joined-edges
-sub-joined-edges c = first-room c
+enum-told : tie.Need-enum-told
+enum-told c = search needs
 
-part-joined-edges-start : tie.Need-part-joined-edges-start
-part-joined-edges-start c = let z = first-room c in search needs
+sub-united : tie.Need-sub-united
+sub-united c = first-room (c .before .before)
 
-part-joined-edges-end : tie.Need-part-joined-edges-end
-part-joined-edges-end c = search needs
+part-united-start : tie.Need-part-united-start
+part-united-start c = let z = first-room (c .before .before) in search needs
 
-sub-joined-edges-2 : tie.Need-sub-joined-edges-2
-sub-joined-edges-2 c = second-room (c .before)
+part-united-end : tie.Need-part-united-end
+part-united-end c = search needs
 
-part-joined-edges-start-2 : tie.Need-part-joined-edges-start-2
-part-joined-edges-start-2 c = let z = second-room (c .before) in search needs
+sub-united-2 : tie.Need-sub-united-2
+sub-united-2 c = second-room (c .before .before .before)
 
-part-joined-edges-end-2 : tie.Need-part-joined-edges-end-2
-part-joined-edges-end-2 c = search needs
+part-united-start-2 : tie.Need-part-united-start-2
+part-united-start-2 c = let z = second-room (c .before .before .before) in search needs
 
-joined-edges-requires : tie.Need-joined-edges-requires
-joined-edges-requires c κs =
-    let k = c .before .before .before .before in
+part-united-end-2 : tie.Need-part-united-end-2
+part-united-end-2 c = search needs
+
+united-requires : tie.Need-united-requires
+united-requires c κs =
+    let k = c .before .before .before .before .before in
     let o = both k in (
-      (first-holds (start k .args .kind) (a k) (b k) (e k) (f k) (o .0) (o .1) (o .2), opens-over (a k) (e k) (o .0)),
-      (
-        (second-holds (start k .args .kind) (a k) (b k) (e k) (f k) (o .0) (o .1) (o .2), opens-over (b k) (f k) (o .1)),
-        start k .pre .0 .enough (e k .bits) (f k .bits) (opens-short (a k) (e k) (o .0)) (opens-room (a k) (e k) (o .0) .few) (opens-short (b k) (f k) (o .1)) (opens-room (b k) (f k) (o .1) .few),
-      ),
+      (first-holds join.Union (a k) (b k) (e k) (f k) (o .0) (o .1) (o .2), opens-over (a k) (e k) (o .0)),
+      ((second-holds join.Union (a k) (b k) (e k) (f k) (o .0) (o .1) (o .2), opens-over (b k) (f k) (o .1)), rooms k .0),
     )
-
--- the edges of what is asked for
-module _ (j : tie.After-joined-edges) where
-  abbrev told : tie.After-known-told2
-  told = j .before .before .before .before .before
-
-  abbrev edges : Bytes
-  edges = j .joined-edges .last .1 .1 .1 .1 .1 .1 .1 .0
-
-  ready : Joined (e told .width) (j .joined-edges .result) edges
-  ready =
-      joined (start told .args .kind) (a told) (b told) (e told) (f told) (both told .0) (both told .1) (both told .2) (now (start told .args .edges)) edges
-      (j .joined-edges .result) (j .joined-edges .ensures)
 
 write-joined-requires : tie.Need-write-joined-requires
 write-joined-requires c κs =
+    let j = c .before .before .before .before in
+    let k = j .before .before .before .before .before .before in
+    let o = both k in (
+      joined join.Union (a k) (b k) (e k) (f k) (o .0) (o .1) (o .2) (now (start k .args .q)) _ (j .united .result) (j .united .ensures),
+      start k .pre .1,
+      omega (arith, start k .pre .0 .queue, j .united .ensures .size),
+    )
+
+enum-told-2 : tie.Need-enum-told-2
+enum-told-2 c = search needs
+
+sub-subtracted : tie.Need-sub-subtracted
+sub-subtracted c = first-room (c .before .before)
+
+part-subtracted-start : tie.Need-part-subtracted-start
+part-subtracted-start c = let z = first-room (c .before .before) in search needs
+
+part-subtracted-end : tie.Need-part-subtracted-end
+part-subtracted-end c = search needs
+
+sub-subtracted-2 : tie.Need-sub-subtracted-2
+sub-subtracted-2 c = second-room (c .before .before .before)
+
+part-subtracted-start-2 : tie.Need-part-subtracted-start-2
+part-subtracted-start-2 c = let z = second-room (c .before .before .before) in search needs
+
+part-subtracted-end-2 : tie.Need-part-subtracted-end-2
+part-subtracted-end-2 c = search needs
+
+subtracted-requires : tie.Need-subtracted-requires
+subtracted-requires c κs =
+    let k = c .before .before .before .before .before .before in
+    let o = both k in (
+      (first-holds join.Difference (a k) (b k) (e k) (f k) (o .0) (o .1) (o .2), opens-over (a k) (e k) (o .0)),
+      ((second-holds join.Difference (a k) (b k) (e k) (f k) (o .0) (o .1) (o .2), opens-over (b k) (f k) (o .1)), rooms k),
+    )
+
+write-joined-requires-2 : tie.Need-write-joined-requires-2
+write-joined-requires-2 c κs =
     let j = c .before .before .before .before .before .before in
-    let k = told j in
-    (ready j, start k .pre .1, omega (arith, start k .pre .0 .bounded, j .joined-edges .kept .1 .1 .1 .1 .1 .1 .1 .0))
+    let k = j .before .before .before .before .before .before .before in
+    let o = both k in (
+      joined join.Difference (a k) (b k) (e k) (f k) (o .0) (o .1) (o .2) (now (start k .args .edges)) _ (j .subtracted .result) (j .subtracted .ensures),
+      start k .pre .1,
+      omega (arith, start k .pre .0 .edges, j .subtracted .ensures .size),
+    )
 
 returns : tie.Need-returns
 unfolding writtenOutcome refusal
@@ -116,13 +151,34 @@ same-length-2 c = search needs
 
 returns-2 : tie.Need-returns-2
 returns-2 c =
-    let j = c .before .before .before .before .before .before .before .before .before in
-    let k = told j in
-    c .before .before .write-joined .ensures
-    ∙ joined-call (start k .args .kind) (a k) (b k) (e k) (f k) (both k .0) (both k .1) (both k .2) (now (start k .args .edges)) (edges j) (j .joined-edges .result) (j .joined-edges .ensures) (now (start k .args .out))
+    let w = c .before .before in
+    let j = w .before .before .before .before .before in
+    let k = j .before .before .before .before .before .before in
+    let o = both k in
+    let out = now (start k .args .out) in
+    w .write-joined .ensures
+    ∙ joined-call join.Union (a k) (b k) (e k) (f k) (o .0) (o .1) (o .2) (now (start k .args .q)) _ (j .united .result) (j .united .ensures) out
+    ∙ ap (λ x. joinCall (joinOf x) (a k) (b k) out) (sym (j .before .before .before .before .enum-told .given .1))
 
 same-length-3 : tie.Need-same-length-3
 same-length-3 c = search needs
+
+same-length-4 : tie.Need-same-length-4
+same-length-4 c = search needs
+
+same-length-5 : tie.Need-same-length-5
+same-length-5 c = search needs
+
+returns-3 : tie.Need-returns-3
+returns-3 c =
+    let w = c .before .before in
+    let j = w .before .before .before .before .before .before .before in
+    let k = j .before .before .before .before .before .before .before in
+    let o = both k in
+    let out = now (start k .args .out) in
+    w .write-joined2 .ensures
+    ∙ joined-call join.Difference (a k) (b k) (e k) (f k) (o .0) (o .1) (o .2) (now (start k .args .edges)) _ (j .subtracted .result) (j .subtracted .ensures) out
+    ∙ ap (λ x. joinCall (joinOf x) (a k) (b k) out) (sym (j .before .before .before .before .before .enum-told2 .given .1))
 
 pub join-with-spec : {M : Type 1} → statement M
 join-with-spec =
@@ -131,16 +187,29 @@ join-with-spec =
     open-both-requires
     enum-known-pair
     enum-known-pair-2
-    sub-joined-edges
-    part-joined-edges-start
-    part-joined-edges-end
-    sub-joined-edges-2
-    part-joined-edges-start-2
-    part-joined-edges-end-2
-    joined-edges-requires
+    enum-told
+    sub-united
+    part-united-start
+    part-united-end
+    sub-united-2
+    part-united-start-2
+    part-united-end-2
+    united-requires
     write-joined-requires
+    enum-told-2
+    sub-subtracted
+    part-subtracted-start
+    part-subtracted-end
+    sub-subtracted-2
+    part-subtracted-start-2
+    part-subtracted-end-2
+    subtracted-requires
+    write-joined-requires-2
     returns
     same-length
     same-length-2
+    returns-2
     same-length-3
-    returns-2)
+    same-length-4
+    same-length-5
+    returns-3)

@@ -1,94 +1,38 @@
 use borrow.Author.Needs.{needs}
-use mathlib.Core.Path.{_≡_, refl}
-use Prim.Native.Nat.{_+_, _-_, _≤_, _<_}
+use mathlib.Core.Path.{_≡_}
+use Prim.Native.Nat.{_-_, _*_, _≤_}
 use native.Mathlib.Omega.{arith}
-use lib.ListN.{length, getD, length-set}
-use lib.Bits.{bitAnd}
-use Rattle.join_tables.proofs.PartTable.{Parting, part-fits, part-turn, part-ruled}
+use lib.ListN.{length}
+use Rattle.join_tables.specs.Entries.{FilledFrom, partCode}
+use Rattle.join_tables.proofs.PartTable.{part-ruled}
 use Rattle.join_tables.proofs.fill_parts.Statement.{statement}
 use Rattle.join_tables.proofs.fill_parts.Tie as tie
 
 abbrev Inv-loop : tie.InvT-loop
-Inv-loop t₀ i₀ t i = (length t ≡ 256) × (i ≤ 64) × Parting i t
+Inv-loop t₀ k₀ t k = (length t ≡ 256) × (1 ≤ k) × (k ≤ 16) × FilledFrom partCode 0 (16 * k) t
 
 abbrev μ-loop : tie.MeasureT-loop
-μ-loop t₀ i₀ t i = 64 - i
+μ-loop t₀ k₀ t k = 16 - k
 
--- the largest of the sums
-fits : (c : tie.After-slice-known Inv-loop μ-loop)
-    → getD (c .before .before .loop .t) (c .before .before .loop .i) 0 + bitAnd (getD (c .before .before .loop .t) (c .before .before .loop .i) 0) 4294905840 + 268505361 < 4294967296
-fits c = part-fits (c .before .before .loop .i) (c .before .before .loop .t) (c .before .loop-test .taken) (c .before .before .loop .inv .2)
-
-slice-write-t : tie.Need-slice-write-t Inv-loop μ-loop
-slice-write-t c = search needs
+first-parts-requires : tie.Need-first-parts-requires Inv-loop μ-loop
+first-parts-requires c κs = search needs
 
 loop-holds : tie.Need-loop-holds Inv-loop μ-loop
-loop-holds c = (search needs, search needs, (search needs, λ i h. absurd (omega arith)))
+loop-holds c = let r = c .before .before .first-parts .ensures in (r .0, search needs, search needs, r .1)
 
-mul-e : tie.Need-mul-e Inv-loop μ-loop
-mul-e c = search needs
+parts-row-requires : tie.Need-parts-row-requires Inv-loop μ-loop
+parts-row-requires c κs = let i = c .before .before .loop .inv in (i .0, i .1, c .before .loop-test .taken, i .3)
 
-slice-read-e : tie.Need-slice-read-e Inv-loop μ-loop
-slice-read-e c = search needs
-
-add-d : tie.Need-add-d Inv-loop μ-loop
-add-d c = record { fits = omega (arith, fits c) }
-
-mul-at : tie.Need-mul-at Inv-loop μ-loop
-mul-at c = search needs
-
-mul-t : tie.Need-mul-t Inv-loop μ-loop
-mul-t c = search needs
-
-slice-write-t-2 : tie.Need-slice-write-t-2 Inv-loop μ-loop
-slice-write-t-2 c = search needs
-
-add-t : tie.Need-add-t Inv-loop μ-loop
-add-t c = record { fits = omega (arith, fits c) }
-
-add-t-2 : tie.Need-add-t-2 Inv-loop μ-loop
-add-t-2 c = search needs
-
-mul-t-2 : tie.Need-mul-t-2 Inv-loop μ-loop
-mul-t-2 c = search needs
-
-slice-write-t-3 : tie.Need-slice-write-t-3 Inv-loop μ-loop
-slice-write-t-3 c = simp length-set (omega arith)
-
-add-t-3 : tie.Need-add-t-3 Inv-loop μ-loop
-add-t-3 c = record { fits = omega (arith, fits c) }
-
-add-t-4 : tie.Need-add-t-4 Inv-loop μ-loop
-add-t-4 c = search needs
-
-mul-t-3 : tie.Need-mul-t-3 Inv-loop μ-loop
-mul-t-3 c = search needs
-
-slice-write-t-4 : tie.Need-slice-write-t-4 Inv-loop μ-loop
-slice-write-t-4 c = simp length-set (omega arith)
-
-add-t-5 : tie.Need-add-t-5 Inv-loop μ-loop
-add-t-5 c = record { fits = omega (arith, fits c) }
-
-add-t-6 : tie.Need-add-t-6 Inv-loop μ-loop
-add-t-6 c = search needs
-
-mul-t-4 : tie.Need-mul-t-4 Inv-loop μ-loop
-mul-t-4 c = search needs
-
-slice-write-t-5 : tie.Need-slice-write-t-5 Inv-loop μ-loop
-slice-write-t-5 c = simp length-set (omega arith)
-
-add-i : tie.Need-add-i Inv-loop μ-loop
-add-i c = search needs
+add-k : tie.Need-add-k Inv-loop μ-loop
+add-k c = search needs
 
 loop-less : tie.Need-loop-less Inv-loop μ-loop
 loop-less c = search needs
 
 loop-again : tie.Need-loop-again Inv-loop μ-loop
 loop-again c =
-    let l = c .before .before .loop in
-    (simp length-set (l .inv .0), search needs, part-turn (l .i) _ (l .t) (l .inv .0) (c .before .loop-test .taken) (l .inv .2) refl)
+    let r = c .before .before .parts-row .ensures in
+    (r .0, search needs, search needs, λ i a b. r .1 i a (omega arith))
 
 same-length : tie.Need-same-length Inv-loop μ-loop
 same-length c = search needs
@@ -96,7 +40,7 @@ same-length c = search needs
 returns : tie.Need-returns Inv-loop μ-loop
 returns c =
     let l = c .before .loop in
-    part-ruled (l .t) (l .inv .0) (λ i h. l .inv .2 .1 i (omega arith))
+    part-ruled (l .t) (l .inv .0) (λ i a b. l .inv .3 i a (omega arith))
 
 pub fill-parts-spec : {M : Type 1} → statement M
 fill-parts-spec =
@@ -104,27 +48,10 @@ fill-parts-spec =
     (tie.spec
     Inv-loop
     μ-loop
-    slice-write-t
+    first-parts-requires
     loop-holds
-    mul-e
-    slice-read-e
-    add-d
-    mul-at
-    mul-t
-    slice-write-t-2
-    add-t
-    add-t-2
-    mul-t-2
-    slice-write-t-3
-    add-t-3
-    add-t-4
-    mul-t-3
-    slice-write-t-4
-    add-t-5
-    add-t-6
-    mul-t-4
-    slice-write-t-5
-    add-i
+    parts-row-requires
+    add-k
     loop-less
     loop-again
     same-length

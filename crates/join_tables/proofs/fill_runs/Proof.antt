@@ -1,111 +1,38 @@
 use borrow.Author.Needs.{needs}
-use mathlib.Core.Path.{_≡_, refl}
-use Prim.Native.Nat.{_+_, _-_, _*_, _%_, _≤_, _<_}
+use mathlib.Core.Path.{_≡_, sym, _∙_}
+use Prim.Native.Nat.{_-_, _*_, _≤_}
 use native.Mathlib.Omega.{arith}
-use lib.ListN.{length, getD, length-set}
-use Rattle.join_tables.proofs.RunTable.{source, Running, run-fits, run-turn, run-ruled}
+use lib.ListN.{length, getD}
+use Rattle.join_tables.specs.Entries.{FilledFrom, runCode}
+use Rattle.join_tables.proofs.RunTable.{run-zero, run-ruled}
 use Rattle.join_tables.proofs.fill_runs.Statement.{statement}
 use Rattle.join_tables.proofs.fill_runs.Tie as tie
 
 abbrev Inv-loop : tie.InvT-loop
-Inv-loop t₀ i₀ t i = (length t ≡ 256) × (i ≤ 64) × Running i t
+Inv-loop t₀ x₀ t x = (length t ≡ 256) × (x ≤ 8) × (getD t 0 0 ≡ 0) × FilledFrom runCode 0 (32 * x) t
 
 abbrev μ-loop : tie.MeasureT-loop
-μ-loop t₀ i₀ t i = 64 - i
-
--- the largest of the sums
-fits : (c : tie.After-slice-known Inv-loop μ-loop)
-    → getD (c .before .before .loop .t) (source (c .before .before .loop .i)) 0 + getD (c .before .before .loop .t) (source (c .before .before .loop .i)) 0 % 256 * 3 + 256 + 3 < 65536
-fits c = run-fits (c .before .before .loop .i) (c .before .before .loop .t) (c .before .loop-test .taken) (c .before .before .loop .inv .2)
+μ-loop t₀ x₀ t x = 8 - x
 
 slice-write-t : tie.Need-slice-write-t Inv-loop μ-loop
 slice-write-t c = search needs
 
 loop-holds : tie.Need-loop-holds Inv-loop μ-loop
-loop-holds c = (search needs, search needs, (search needs, λ i b h. absurd (omega arith)))
+loop-holds c = (search needs, search needs, search needs, λ i a b. absurd (omega arith))
 
-mul-e : tie.Need-mul-e Inv-loop μ-loop
-mul-e c = search needs
+runs-row-requires : tie.Need-runs-row-requires Inv-loop μ-loop
+runs-row-requires c κs = let i = c .before .before .loop .inv in (i .0, c .before .loop-test .taken, i .2, i .3)
 
-add-e : tie.Need-add-e Inv-loop μ-loop
-add-e c = search needs
-
-mul-e-2 : tie.Need-mul-e-2 Inv-loop μ-loop
-mul-e-2 c = search needs
-
-slice-read-e : tie.Need-slice-read-e Inv-loop μ-loop
-slice-read-e c = search needs
-
-mul-d : tie.Need-mul-d Inv-loop μ-loop
-mul-d c = record { fits = omega (arith, fits c) }
-
-add-d : tie.Need-add-d Inv-loop μ-loop
-add-d c = record { fits = omega (arith, fits c) }
-
-add-d-2 : tie.Need-add-d-2 Inv-loop μ-loop
-add-d-2 c = record { fits = omega (arith, fits c) }
-
-mul-at : tie.Need-mul-at Inv-loop μ-loop
-mul-at c = search needs
-
-mul-at-2 : tie.Need-mul-at-2 Inv-loop μ-loop
-mul-at-2 c = search needs
-
-add-at : tie.Need-add-at Inv-loop μ-loop
-add-at c = search needs
-
-mul-t : tie.Need-mul-t Inv-loop μ-loop
-mul-t c = search needs
-
-slice-write-t-2 : tie.Need-slice-write-t-2 Inv-loop μ-loop
-slice-write-t-2 c = search needs
-
-add-t : tie.Need-add-t Inv-loop μ-loop
-add-t c = record { fits = omega (arith, fits c) }
-
-add-t-2 : tie.Need-add-t-2 Inv-loop μ-loop
-add-t-2 c = search needs
-
-mul-t-2 : tie.Need-mul-t-2 Inv-loop μ-loop
-mul-t-2 c = search needs
-
-slice-write-t-3 : tie.Need-slice-write-t-3 Inv-loop μ-loop
-slice-write-t-3 c = simp length-set (omega arith)
-
-add-t-3 : tie.Need-add-t-3 Inv-loop μ-loop
-add-t-3 c = record { fits = omega (arith, fits c) }
-
-add-t-4 : tie.Need-add-t-4 Inv-loop μ-loop
-add-t-4 c = search needs
-
-mul-t-3 : tie.Need-mul-t-3 Inv-loop μ-loop
-mul-t-3 c = search needs
-
-slice-write-t-4 : tie.Need-slice-write-t-4 Inv-loop μ-loop
-slice-write-t-4 c = simp length-set (omega arith)
-
-add-t-5 : tie.Need-add-t-5 Inv-loop μ-loop
-add-t-5 c = record { fits = omega (arith, fits c) }
-
-add-t-6 : tie.Need-add-t-6 Inv-loop μ-loop
-add-t-6 c = search needs
-
-mul-t-4 : tie.Need-mul-t-4 Inv-loop μ-loop
-mul-t-4 c = search needs
-
-slice-write-t-5 : tie.Need-slice-write-t-5 Inv-loop μ-loop
-slice-write-t-5 c = simp length-set (omega arith)
-
-add-i : tie.Need-add-i Inv-loop μ-loop
-add-i c = search needs
+add-x : tie.Need-add-x Inv-loop μ-loop
+add-x c = search needs
 
 loop-less : tie.Need-loop-less Inv-loop μ-loop
 loop-less c = search needs
 
 loop-again : tie.Need-loop-again Inv-loop μ-loop
 loop-again c =
-    let l = c .before .before .loop in
-    (simp length-set (l .inv .0), search needs, run-turn (l .i) _ _ (l .t) (l .inv .0) (c .before .loop-test .taken) (l .inv .2) refl refl)
+    let r = c .before .before .runs-row .ensures in
+    (r .0, search needs, r .1 0 (omega arith) (omega arith) ∙ sym run-zero, λ i a b. r .1 i a (omega arith))
 
 same-length : tie.Need-same-length Inv-loop μ-loop
 same-length c = search needs
@@ -113,7 +40,7 @@ same-length c = search needs
 returns : tie.Need-returns Inv-loop μ-loop
 returns c =
     let l = c .before .loop in
-    run-ruled (l .t) (l .inv .0) (l .inv .2 .0, λ j b h. l .inv .2 .1 j b (omega arith))
+    run-ruled (l .t) (l .inv .0) (λ i a b. l .inv .3 i a (omega arith))
 
 pub fill-runs-spec : {M : Type 1} → statement M
 fill-runs-spec =
@@ -123,31 +50,8 @@ fill-runs-spec =
     μ-loop
     slice-write-t
     loop-holds
-    mul-e
-    add-e
-    mul-e-2
-    slice-read-e
-    mul-d
-    add-d
-    add-d-2
-    mul-at
-    mul-at-2
-    add-at
-    mul-t
-    slice-write-t-2
-    add-t
-    add-t-2
-    mul-t-2
-    slice-write-t-3
-    add-t-3
-    add-t-4
-    mul-t-3
-    slice-write-t-4
-    add-t-5
-    add-t-6
-    mul-t-4
-    slice-write-t-5
-    add-i
+    runs-row-requires
+    add-x
     loop-less
     loop-again
     same-length

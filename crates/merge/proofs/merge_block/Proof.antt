@@ -1,6 +1,7 @@
-use mathlib.Core.Path.{refl}
+use mathlib.Core.Path.{refl, _∙_}
+use Prim.Native.Nat.{_+_}
 use native.Mathlib.Omega.{arith}
-use lib.ListN.{length-set}
+use lib.ListN.{set, length-set}
 use denote.Ref.{now}
 use Rattle.merge.proofs.Spreading.{block-ok}
 use borrow.Author.Needs.{needs}
@@ -25,41 +26,37 @@ slice-read-merge-eight-2 c = search needs
 merge-eight-requires : tie.Need-merge-eight-requires
 merge-eight-requires c κs = search needs
 
-cast-out : tie.Need-cast-out
-cast-out c = search needs
+cast-q : tie.Need-cast-q
+cast-q c = search needs
 
-slice-write-out : tie.Need-slice-write-out
-slice-write-out c = search needs
+slice-write-q : tie.Need-slice-write-q
+slice-write-q c = search needs
 
-cast-out-2 : tie.Need-cast-out-2
-cast-out-2 c = search needs
+cast-q-2 : tie.Need-cast-q-2
+cast-q-2 c = search needs
 
-add-out : tie.Need-add-out
-add-out c = record { fits = omega (arith, c .before .before .before .before .before .before .before .before .before .before .before .before .before .before .pre .0 .0, c .before .before .before .before .before .before .before .before .before .before .before .before .before .before .pre .1 .0 .3) }
+add-q : tie.Need-add-q
+add-q c = search needs
 
-slice-write-out-2 : tie.Need-slice-write-out-2
-slice-write-out-2 c = simp length-set (omega (arith, c .before .before .before .before .before .before .before .before .before .before .before .before .before .before .pre .0 .1))
+slice-write-q-2 : tie.Need-slice-write-q-2
+slice-write-q-2 c = let s = c .before .before .before .before .before .before .before .before .before .before .before .before .before in simp length-set (omega (arith, s .pre .0))
 
 append-requires : tie.Need-append-requires
 append-requires c κs =
-    let s = c .before .before .before .before .before .before .before .before .before .before .before .before .before .before .before in
-    let e = c .before .before .before .merge-eight .ensures in
-    (omega (arith, s .pre .0 .2), e .short)
+    let s = c .before .before .before .before .before .before .before .before .before .before .before .before .before .before in
+    (simp length-set (omega (arith, s .pre .0)), c .before .before .before .merge-eight .ensures .short)
 
-add-t18 : tie.Need-add-t18
-add-t18 c = record { fits = omega (arith, c .before .before .before .before .before .before .before .before .before .before .before .before .before .before .before .before .before .before .before .pre .1 .0 .2, c .before .before .before .before .before .before .before .merge-eight .ensures .few .0) }
+add-t17 : tie.Need-add-t17
+add-t17 c = let e = c .before .before .before .before .before .before .before in record { fits = omega (arith, e .before .before .before .before .before .before .before .before .before .before .before .pre .1 .0 .2, e .merge-eight .ensures .few .0) }
 
-add-t26 : tie.Need-add-t26
-add-t26 c = record { fits = omega (arith, c .before .before .before .before .before .before .before .before .before .before .before .before .before .before .before .before .before .before .before .before .pre .1 .0 .2, c .before .before .before .before .before .before .before .before .merge-eight .ensures .few .1) }
+add-t25 : tie.Need-add-t25
+add-t25 c = let e = c .before .before .before .before .before .before .before .before in record { fits = omega (arith, e .before .before .before .before .before .before .before .before .before .before .before .pre .1 .0 .2, e .merge-eight .ensures .few .1) }
 
 add-t27 : tie.Need-add-t27
-add-t27 c = record { fits = omega (arith, c .before .before .before .before .before .before .before .before .before .before .before .before .before .before .before .before .before .before .before .before .before .pre .0 .2, c .before .before .before .before .before .before .before .before .before .before .before .before .before .before .before .before .before .before .before .before .before .pre .1 .0 .3, c .before .before .before .before .before .before .before .before .before .merge-eight .ensures .short .1) }
+add-t27 c = let e = c .before .before .before .before .before .before .before .before .before in record { fits = omega (arith, e .before .before .before .before .before .before .before .before .before .before .before .pre .0, e .merge-eight .ensures .short .1) }
 
 same-length : tie.Need-same-length
-same-length c = search needs
-
-same-length-2 : tie.Need-same-length-2
-same-length-2 c = search needs
+same-length c = let s = c .before .before .before .before .before .before .before .before .before .before .before .before .before .before .before .before .before .before .before .before in c .before .before .before .before .before .append .ensures .size ∙ length-set (set (now (s .args .q)) (s .args .j) _) (s .args .j + 1) _ ∙ length-set (now (s .args .q)) (s .args .j) _
 
 returns : tie.Need-returns
 returns c =
@@ -67,11 +64,11 @@ returns c =
     let e = w .before .before .before .before in
     let y = e .before .before .before in
     let x = y .before in
-    let s = x .before .before .before .before .before .before .before .before in
+    let s = x .before .before .before .before .before .before .before in
     let v = e .merge-eight .result in
-    block-ok (now (s .args .a)) (now (s .args .b)) (now (s .args .q)) (now (s .args .out)) (w .append .last .0) (s .args .j) (s .args .at .a) (s .args .at .b) (s .args .at .tail) _ _
-    (x .window .result) (y .window2 .result) (v .high) (v .low) (v .flags .records) (v .flags .count) (v .first) (v .second) (s .pre .0 .1) refl refl
-    (x .window .ensures .0) (y .window2 .ensures .0) (e .merge-eight .ensures) (w .append .ensures)
+    block-ok (now (s .args .a)) (now (s .args .b)) (now (s .args .q)) (w .append .last .0) (s .args .j) (s .args .at .a) (s .args .at .b) (s .args .at .tail) _ _
+    (x .window .result) (y .window2 .result) (v .high) (v .low) (v .flags .records) (v .flags .bits) (v .first) (v .second) (omega (arith, s .pre .0)) (s .pre .0 .0) refl refl
+    (x .window .ensures) (y .window2 .ensures) (e .merge-eight .ensures) (w .append .ensures)
 
 pub merge-block-spec : {M : Type 1} → statement M
 merge-block-spec =
@@ -83,15 +80,14 @@ merge-block-spec =
     add-merge-eight
     slice-read-merge-eight-2
     merge-eight-requires
-    cast-out
-    slice-write-out
-    cast-out-2
-    add-out
-    slice-write-out-2
+    cast-q
+    slice-write-q
+    cast-q-2
+    add-q
+    slice-write-q-2
     append-requires
-    add-t18
-    add-t26
+    add-t17
+    add-t25
     add-t27
     same-length
-    same-length-2
     returns)

@@ -70,11 +70,11 @@ returns c =
     eight-ok (s .args .c) (s .args .d) (s .args .x) (s .args .y) (f .parts-at .result .firsts) (f .parts-at .result .seconds) (f .parts-at .result .first) (f .parts-at .result .second)
     (g .parts-at2 .result .firsts) (g .parts-at2 .result .seconds) (g .parts-at2 .result .first) (g .parts-at2 .result .second)
     (x₁ .four-in .result) (y₁ .four-in2 .result) (x₂ .four-in3 .result) (y₂ .four-in4 .result) (u₁ .spread-at .result) (v₁ .spread-at2 .result) (u₂ .spread-at3 .result) (v₂ .spread-at4 .result)
-    (h .push-four .result .records) (h .push-four .result .count) (k .push-four2 .result .records) (k .push-four2 .result .count) (r .run-and .result .records) (r .run-and .result .count)
+    (h .push-four .result .records) (h .push-four .result .bits) (k .push-four2 .result .records) (k .push-four2 .result .bits) (r .run-and .result .records) (r .run-and .result .bits)
     (a .0 .0) (a .1 .0 .0) (a .1 .1 .0) (a .1 .1 .1) (b .0 .0) (b .1 .0 .0) (b .1 .1 .0) (b .1 .1 .1)
     (x₁ .four-in .ensures .0) (y₁ .four-in2 .ensures .0) (x₂ .four-in3 .ensures .0) (y₂ .four-in4 .ensures .0)
     (u₁ .spread-at .ensures) (v₁ .spread-at2 .ensures) (u₂ .spread-at3 .ensures) (v₂ .spread-at4 .ensures) (h .push-four .ensures .0) (k .push-four2 .ensures .0) (r .run-and .ensures .0)
-    (r .run-and .ensures .1, omega (arith, r .run-and .ensures .2, h .push-four .ensures .1 .1, k .push-four2 .ensures .1 .1))
+    (r .run-and .ensures .1, omega (arith, r .run-and .ensures .2, h .push-four .ensures .1 .1, k .push-four2 .ensures .1 .1), omega (arith, r .run-and .ensures .2, h .push-four .ensures .1 .2, k .push-four2 .ensures .1 .2))
 
 pub merge-eight-spec : {M : Type 1} → statement M
 merge-eight-spec =

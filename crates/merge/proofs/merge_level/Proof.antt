@@ -4,21 +4,20 @@ use lib.ListN.{length}
 use denote.Ref.{now}
 use native.Mathlib.Omega.{arith}
 use borrow.Author.Needs.{needs}
-use Rattle.records.specs.Records.{flagsFrom}
 use Rattle.merge.specs.Union.{LevelMerged}
-use Rattle.merge.proofs.Levels.{level-none, over, taken-le, room-first, room-second, level-more, level-block}
+use Rattle.merge.proofs.Levels.{level-none, tail-le, over, taken-le, room-first, room-second, level-more, level-block}
 use Rattle.merge.proofs.merge_level.Statement.{statement}
 use Rattle.merge.proofs.merge_level.Tie as tie
 
 abbrev Inv-loop : tie.InvT-loop
-Inv-loop a b spreads parts runs q₀ out₀ from end to at₀ i₀ q out at i =
-    LevelMerged a b q₀ out₀ from (at₀ .a) (at₀ .b) (at₀ .tail) (flagsFrom q₀ from (i - from)) q out (at .a) (at .b) (at .tail) × (from ≤ i) × (i ≤ end)
+Inv-loop a b spreads parts runs q₀ from end to at₀ i₀ q at i =
+    LevelMerged a b q₀ from (at₀ .a) (at₀ .b) (at₀ .tail) (i - from) q (at .a) (at .b) (at .tail) × (from ≤ i) × (i ≤ end)
 
 abbrev μ-loop : tie.MeasureT-loop
-μ-loop a b spreads parts runs q₀ out₀ from end to at₀ i₀ q out at i = end - i
+μ-loop a b spreads parts runs q₀ from end to at₀ i₀ q at i = end - i
 
 abbrev start : tie.At-loop Inv-loop μ-loop → tie.Start Inv-loop μ-loop
-start l = l .before .before .before .before .before .before .before .before .before
+start l = l .before .before .before .before .before .before .before .before
 
 -- how many records of the level are done
 abbrev past : tie.At-loop Inv-loop μ-loop → ℕ
@@ -42,40 +41,41 @@ blocks-end-requires c κs = search needs
 
 loop-holds : tie.Need-loop-holds Inv-loop μ-loop
 loop-holds c =
-    let z : c .before .before .before .before .before .before .before .before .args .from - c .before .before .before .before .before .before .before .before .args .from ≡ 0 = omega arith in
-    (rw z level-none, omega arith, c .before .before .before .before .before .before .before .before .pre .0 .order)
+    let s = c .before .before .before .before .before .before .before in
+    let z : s .args .from - s .args .from ≡ 0 = omega arith in
+    (rw z (level-none (s .pre .0 .order)), omega arith, s .pre .0 .order)
 
 has-block-requires : tie.Need-has-block-requires Inv-loop μ-loop
 has-block-requires c κs = let r = start (c .before) .pre .0 in omega (arith, r .queue, r .small, c .loop-test .taken)
 
 merge-block-requires : tie.Need-merge-block-requires Inv-loop μ-loop
 merge-block-requires c κs =
-    let d = c .before .before in
+    let d = c .before in
     let l = d .before .before .before in
     let s = start l in
     let t = more l (d .before .before .loop-test .taken) in
     let v = l .loop .inv .0 in
     let r = block d in
     let o = over (s .pre .0) (past l) t v in (
-      (omega (arith, v .qsize, s .pre .0 .queue, r .2), omega (arith, v .osize, s .pre .0 .out, r .2), omega (arith, v .qsize, o .2)),
-      ((o .0, o .1, taken-le (s .pre .0) (past l) t v, omega (arith, v .qsize, s .pre .0 .small)), s .pre .1 (r .0)),
+      (omega (arith, r .2, tail-le (s .pre .0) (past l) t v), omega (arith, v .size, o .2), omega (arith, v .size, s .pre .0 .small)),
+      ((o .0, o .1, taken-le (s .pre .0) (past l) t v), s .pre .1 (r .0)),
     )
 
 add-i : tie.Need-add-i Inv-loop μ-loop
 add-i c =
-    let d = c .before .before .before .before .before .before .before in
+    let d = c .before .before .before .before in
     let l = d .before .before .before in
     record { fits = omega (arith, block d .2, start l .fits, l .loop .inv .2) }
 
 loop-less : tie.Need-loop-less Inv-loop μ-loop
 loop-less c =
-    let d = c .before .before .before .before .before .before .before in
+    let d = c .before .before .before .before in
     omega (arith, block d .2)
 
 loop-again : tie.Need-loop-again Inv-loop μ-loop
 loop-again c =
-    let m = c .before .before .before .before in
-    let d = m .before .before .before in
+    let m = c .before .before in
+    let d = m .before .before in
     let l = d .before .before .before in
     let s = start l in
     let r = block d in
@@ -86,39 +86,36 @@ loop-again c =
 
 merge-record-requires : tie.Need-merge-record-requires Inv-loop μ-loop
 merge-record-requires c κs =
-    let l = c .before .before .before .before .before in
+    let l = c .before .before .before .before in
     let s = start l in
-    let t = more l (c .before .before .before .before .loop-test .taken) in
+    let t = more l (c .before .before .before .loop-test .taken) in
     let v = l .loop .inv .0 in
     let e = over (s .pre .0) (past l) t v .2 in
     let z : l .loop .i ≡ s .args .from + past l = omega (arith, here l) in (
-      (omega (arith, v .qsize, e, s .pre .0 .queue, l .loop .inv .2), omega (arith, v .osize, s .pre .0 .out), omega (arith, v .qsize, e), omega (arith, v .qsize, s .pre .0 .small)),
+      (omega (arith, tail-le (s .pre .0) (past l) t v, c .before .before .before .loop-test .taken), omega (arith, v .size, e), omega (arith, v .size, s .pre .0 .small)),
       (rw z (room-first (s .pre .0) (past l) t v), (rw z (room-second (s .pre .0) (past l) t v), taken-le (s .pre .0) (past l) t v)),
     )
 
 add-i-2 : tie.Need-add-i-2 Inv-loop μ-loop
 add-i-2 c =
-    let l = c .before .before .before .before .before .before .before .before .before .before in
-    record { fits = omega (arith, c .before .before .before .before .before .before .before .before .before .loop-test .taken, start l .fits, l .loop .inv .2) }
+    let l = c .before .before .before .before .before .before .before in
+    record { fits = omega (arith, c .before .before .before .before .before .before .loop-test .taken, start l .fits, l .loop .inv .2) }
 
 loop-less-2 : tie.Need-loop-less-2 Inv-loop μ-loop
-loop-less-2 c = omega (arith, c .before .before .before .before .before .before .before .before .before .loop-test .taken)
+loop-less-2 c = omega (arith, c .before .before .before .before .before .before .loop-test .taken)
 
 loop-again-2 : tie.Need-loop-again-2 Inv-loop μ-loop
 loop-again-2 c =
-    let m = c .before .before .before .before in
-    let l = m .before .before .before .before .before .before in
+    let m = c .before .before in
+    let l = m .before .before .before .before .before in
     let s = start l in
-    let t = m .before .before .before .before .before .loop-test .taken in
+    let t = m .before .before .before .before .loop-test .taken in
     let z : l .loop .i + 1 - s .args .from ≡ past l + 1 = omega (arith, l .loop .inv .1) in
     let y : s .args .from + past l ≡ l .loop .i = here l in
     (rw z (level-more (s .pre .0) (past l) (more l t) (l .loop .inv .0) (rw y (m .merge-record .ensures))), omega (arith, l .loop .inv .1), omega arith)
 
 same-length : tie.Need-same-length Inv-loop μ-loop
-same-length c = c .before .loop .inv .0 .qsize
-
-same-length-2 : tie.Need-same-length-2 Inv-loop μ-loop
-same-length-2 c = c .before .loop .inv .0 .osize
+same-length c = c .before .loop .inv .0 .size
 
 returns : tie.Need-returns Inv-loop μ-loop
 returns c =
@@ -144,5 +141,4 @@ merge-level-spec =
     loop-less-2
     loop-again-2
     same-length
-    same-length-2
     returns)

@@ -1,8 +1,8 @@
 use mathlib.Core.Path.{_∙_}
+use native.Mathlib.Omega.{arith}
 use denote.Ref.{now}
 use Rattle.merge.proofs.Single.{step-ok, flag-odd}
 use borrow.Author.Needs.{needs}
-use native.Mathlib.Omega.{arith}
 use Rattle.merge.proofs.merge_record.Statement.{statement}
 use Rattle.merge.proofs.merge_record.Tie as tie
 
@@ -11,12 +11,12 @@ record-at-requires c κs = search needs
 
 record-if-requires : tie.Need-record-if-requires
 record-if-requires c κs =
-    let s = c .before .before .before .before .before .before in
+    let s = c .before .before .before .before .before in
     λ e. omega (arith, s .pre .1 .0 (flag-odd (now (s .args .q)) (s .args .i) (c .record-at .result) (c .record-at .ensures .0) .0 ∙ e))
 
 record-if-requires-2 : tie.Need-record-if-requires-2
 record-if-requires-2 c κs =
-    let s = c .before .before .before .before .before .before .before in
+    let s = c .before .before .before .before .before .before in
     let f = c .before .record-at in
     λ e. omega (arith, s .pre .1 .1 .0 (flag-odd (now (s .args .q)) (s .args .i) (f .result) (f .ensures .0) .1 ∙ e))
 
@@ -44,9 +44,6 @@ add-nb c = search needs
 same-length : tie.Need-same-length
 same-length c = search needs
 
-same-length-2 : tie.Need-same-length-2
-same-length-2 c = search needs
-
 returns : tie.Need-returns
 returns c =
     let p = c .before .before in
@@ -55,10 +52,10 @@ returns c =
     let t3 = e .before in
     let t2 = t3 .before in
     let t1 = t2 .before in
-    let s = t1 .before .before .before .before .before .before in
-    step-ok (now (s .args .a)) (now (s .args .b)) (now (s .args .q)) (now (s .args .out)) (p .push-children .last .0) (o .put-record .last .0)
+    let s = t1 .before .before .before .before .before in
+    step-ok (now (s .args .a)) (now (s .args .b)) (now (s .args .q)) (o .put-record .last .0) (p .push-children .last .0)
     (s .args .i) (s .args .at .a) (s .args .at .b) (s .args .at .tail) (p .push-children .result) (t1 .record-at .result) (t2 .record-if .result) (t3 .record-if2 .result) (e .either-record .result)
-    (t1 .record-at .ensures .0) (t2 .record-if .ensures .0) (t3 .record-if2 .ensures .0) (e .either-record .ensures .0) (o .put-record .ensures) (p .push-children .ensures)
+    (s .pre .0 .0) (t1 .record-at .ensures .0) (t2 .record-if .ensures .0) (t3 .record-if2 .ensures .0) (e .either-record .ensures .0) (o .put-record .ensures) (p .push-children .ensures)
 
 pub merge-record-spec : {M : Type 1} → statement M
 merge-record-spec =
@@ -75,5 +72,4 @@ merge-record-spec =
     cast-nb
     add-nb
     same-length
-    same-length-2
     returns)

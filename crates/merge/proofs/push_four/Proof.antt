@@ -20,7 +20,7 @@ run-and-requires : tie.Need-run-and-requires
 run-and-requires c κs =
     let g = c .run-at2 .ensures .1 in
     let h = c .before .run-at .ensures .1 in
-    ((h .0, omega (arith, h .1)), (g .0, omega (arith, g .1)))
+    ((h .0, omega (arith, h .1), h .2), (g .0, omega (arith, g .1), g .2))
 
 returns : tie.Need-returns
 returns c =
@@ -32,7 +32,7 @@ returns c =
       c .run-and .ensures .0 ∙ ap₂ (λ a b. a ++ b) (h .run-at .ensures .0) (g .run-at2 .ensures .0)
           ∙ sym (map-append recordOfFlag (eitherFlags (bitsOf 4 (x / 16)) (bitsOf 4 (y / 16))) (eitherFlags (bitsOf 4 (x % 16)) (bitsOf 4 (y % 16))))
           ∙ ap (map recordOfFlag) (sym (children-four x y)),
-      (c .run-and .ensures .1, omega (arith, c .run-and .ensures .2, h .run-at .ensures .1 .1, g .run-at2 .ensures .1 .1)),
+      (c .run-and .ensures .1, omega (arith, c .run-and .ensures .2, h .run-at .ensures .1 .1, g .run-at2 .ensures .1 .1), omega (arith, c .run-and .ensures .2, h .run-at .ensures .1 .2, g .run-at2 .ensures .1 .2)),
     )
 
 pub push-four-spec : {M : Type 1} → statement M

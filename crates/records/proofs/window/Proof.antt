@@ -1,4 +1,3 @@
-use native.Mathlib.Omega.{arith}
 use denote.Ref.{now}
 use Rattle.records.proofs.Numbers.{window-ok}
 use borrow.Author.Needs.{needs}
@@ -59,11 +58,11 @@ add-x-3 c = search needs
 mul-result : tie.Need-mul-result
 mul-result c = search needs
 
-sub-result : tie.Need-sub-result
-sub-result c = search needs
+add-result : tie.Need-add-result
+add-result c = search needs
 
-shr-result : tie.Need-shr-result
-shr-result c = search needs
+shl-result : tie.Need-shl-result
+shl-result c = search needs
 
 returns : tie.Need-returns
 returns c =
@@ -71,7 +70,7 @@ returns c =
     let w2 = w3 .before .before in
     let w1 = w2 .before .before in
     let s = w1 .before .before .before in
-    (window-ok (now (s .args .l)) (s .args .i) (w1 .wide .result) (w2 .wide2 .result) (w3 .wide3 .result) (c .wide4 .result) (w1 .wide .ensures .0) (w2 .wide2 .ensures .0) (w3 .wide3 .ensures .0) (c .wide4 .ensures .0) (w2 .wide2 .ensures .1) (w3 .wide3 .ensures .1) (c .wide4 .ensures .1), omega arith)
+    window-ok (now (s .args .l)) (s .args .i) (w1 .wide .result) (w2 .wide2 .result) (w3 .wide3 .result) (c .wide4 .result) (w1 .wide .ensures .0) (w2 .wide2 .ensures .0) (w3 .wide3 .ensures .0) (c .wide4 .ensures .0) (w2 .wide2 .ensures .1) (w3 .wide3 .ensures .1) (c .wide4 .ensures .1)
 
 pub window-spec : {M : Type 1} → statement M
 window-spec =
@@ -95,6 +94,6 @@ window-spec =
     wide-requires-4
     add-x-3
     mul-result
-    sub-result
-    shr-result
+    add-result
+    shl-result
     returns)

@@ -1,7 +1,6 @@
-use Rattle.records.specs.Records.{withRecord}
-use Rattle.records.proofs.Codes.{shifted}
-use borrow.Author.Needs.{needs}
 use native.Mathlib.Omega.{arith}
+use Rattle.records.proofs.Codes.{masked}
+use borrow.Author.Needs.{needs}
 use Rattle.records.proofs.with_record.Statement.{statement}
 use Rattle.records.proofs.with_record.Tie as tie
 
@@ -11,12 +10,6 @@ mul-s c = search needs
 sub-s : tie.Need-sub-s
 sub-s c = search needs
 
-cast-was : tie.Need-cast-was
-cast-was c = search needs
-
-shr-was : tie.Need-shr-was
-shr-was c = search needs
-
 cast-result : tie.Need-cast-result
 cast-result c = search needs
 
@@ -24,7 +17,7 @@ shl-result : tie.Need-shl-result
 shl-result c = search needs
 
 sub-result : tie.Need-sub-result
-sub-result c = shifted (c .args .old) (c .args .k) (c .args .z) (omega arith) (c .pre .0) (c .pre .1) .0
+sub-result c = search needs
 
 cast-result-2 : tie.Need-cast-result-2
 cast-result-2 c = search needs
@@ -32,25 +25,10 @@ cast-result-2 c = search needs
 shl-result-2 : tie.Need-shl-result-2
 shl-result-2 c = search needs
 
-add-result : tie.Need-add-result
-add-result c = record { fits = shifted (c .args .old) (c .args .k) (c .args .z) (omega arith) (c .pre .0) (c .pre .1) .1 }
-
 returns : tie.Need-returns
-unfolding withRecord
-returns c = shifted (c .args .old) (c .args .k) (c .args .z) (omega arith) (c .pre .0) (c .pre .1) .2
+returns c = masked (c .args .old) (c .args .k) (c .args .z) (omega arith) (c .pre .0) (c .pre .1)
 
 pub with-record-spec : {M : Type 1} → statement M
 with-record-spec =
     tie.close
-    (tie.spec
-    mul-s
-    sub-s
-    cast-was
-    shr-was
-    cast-result
-    shl-result
-    sub-result
-    cast-result-2
-    shl-result-2
-    add-result
-    returns)
+    (tie.spec mul-s sub-s cast-result shl-result sub-result cast-result-2 shl-result-2 returns)

@@ -23,7 +23,7 @@ returns c =
     let a = b .before in
     let s = a .before .before .before in
     let r = c .run-and .ensures in
-    (r .0 ∙ ap₂ (λ s t. s ++ t) (a .byte-run .ensures .0) (b .byte-run2 .ensures .0) ∙ sym (filter-append hasEdge (recordsOf 4 (s .args .x)) (recordsOf 4 (s .args .y))), (r .1, omega arith))
+    (r .0 ∙ ap₂ (λ s t. s ++ t) (a .byte-run .ensures .0) (b .byte-run2 .ensures .0) ∙ sym (filter-append hasEdge (recordsOf 4 (s .args .x)) (recordsOf 4 (s .args .y))), (r .1, omega arith, omega (arith, r .2, a .byte-run .ensures .1 .2, b .byte-run2 .ensures .1 .2)))
 
 pub bytes-run-spec : {M : Type 1} → statement M
 bytes-run-spec =

@@ -22,7 +22,7 @@ abbrev blockOf : tie.Then1 Inv-loop μ-loop → tie.At-loop Inv-loop μ-loop
 blockOf d = d .before .before .before
 
 room : (d : tie.Then1 Inv-loop μ-loop)
-    → (0 < length (now (start (blockOf d) .args .spreads))) × (blockOf d .loop .i % 4 ≡ 0) × (16 ≤ start (blockOf d) .args .r - blockOf d .loop .i) × (blockOf d .loop .k / 4 + 4 < length (blockOf d .loop .out))
+    → (0 < length (now (start (blockOf d) .args .spreads))) × (blockOf d .loop .i % 4 ≡ 0) × (16 ≤ start (blockOf d) .args .r - blockOf d .loop .i) × (blockOf d .loop .k / 4 + 7 < length (blockOf d .loop .out))
 room d = d .before .has-run .ensures (d .if1 .taken)
 
 loop-holds : tie.Need-loop-holds Inv-loop μ-loop

@@ -54,7 +54,7 @@ same-length c = search needs
 returns : tie.Need-returns
 returns c =
     let g = c .before .before in
-    let u = g .before .before in
+    let u = g .before .before .before in
     let b = u .before in
     let a = b .before .before .before in
     let s = a .before .before .before .before .before .before .before in

@@ -24,25 +24,19 @@ returns-5 c = λ e. absurd (false≢true e)
 returns-6 : tie.Need-returns-6
 returns-6 c = λ e. absurd (false≢true e)
 
-returns-7 : tie.Need-returns-7
-returns-7 c = λ e. absurd (false≢true e)
-
 add-result : tie.Need-add-result
 add-result c = search needs
 
-returns-8 : tie.Need-returns-8
-returns-8 c =
-    λ e. (
-      omega arith,
-      record {
-        flag = (omega arith, omega arith);
-        whole = omega arith;
-        less = omega arith;
-        behind = omega arith;
-        same = λ h. ⊎-elim (λ p. omega (arith, p .1 .left)) (λ p. absurd (omega (arith, p .left))) (c .if7 .came);
-        queue = ltb-true _ _ e;
-      },
-    )
+returns-7 : tie.Need-returns-7
+returns-7 c =
+    λ e. record {
+      flag = (omega arith, omega arith);
+      whole = omega arith;
+      less = omega arith;
+      behind = omega arith;
+      same = λ h. ⊎-elim (λ p. omega (arith, p .1 .left)) (λ p. absurd (omega (arith, p .left))) (c .if6 .came);
+      queue = ltb-true _ _ e;
+    }
 
 pub has-mark-spec : {M : Type 1} → statement M
 has-mark-spec =
@@ -54,6 +48,5 @@ has-mark-spec =
     returns-4
     returns-5
     returns-6
-    returns-7
     add-result
-    returns-8)
+    returns-7)

@@ -1,185 +1,29 @@
-use Prim.Native.Nat.{suc, _-_, _/_, _<_}
-use mathlib.Core.Path.{_≡_, refl}
-use lib.ListN.{length, getD}
-use lib.Dec.{ltb}
-use denote.Ref.{now}
-use Rattle.restrict.specs.Restriction.{MarkRoom}
-use Rattle.restrict.proofs.Marking.{Marking, mark-none, mark-le, down, inside, mark-more, mark-done}
-use Rattle.restrict.proofs.Masking.{test-small, marked-byte}
-use borrow.Author.Needs.{needs}
 use native.Mathlib.Omega.{arith}
+use borrow.Author.Needs.{needs}
 use Rattle.restrict.proofs.mark.Statement.{statement}
 use Rattle.restrict.proofs.mark.Tie as tie
 
-abbrev Inv-loop : tie.InvT-loop
-Inv-loop e spreads parts q₀ r n w i₀ c₀ q i c = Marking w e q₀ r n i c q
+mark-bytes-requires : tie.Need-mark-bytes-requires
+mark-bytes-requires c κs =
+    let s = c .before .before .before .before .before in
+    (s .pre .0, s .pre .1 (omega (arith, c .before .if1 .taken)))
 
-abbrev μ-loop : tie.MeasureT-loop
-μ-loop e spreads parts q₀ r n w i₀ c₀ q i c = i
+mark-singly-requires : tie.Need-mark-singly-requires
+mark-singly-requires c κs = search needs
 
-abbrev start : tie.At-loop Inv-loop μ-loop → tie.Start Inv-loop μ-loop
-start l = l .before .before .before .before .before
+same-length : tie.Need-same-length
+same-length c = search needs
 
-abbrev loopOf : tie.After-record-at Inv-loop μ-loop → tie.At-loop Inv-loop μ-loop
-loopOf t = t .before .before .before .before .before .before
+returns : tie.Need-returns
+returns c = search needs
 
-at : (t : tie.After-record-at Inv-loop μ-loop)
-    → Marking (start (loopOf t) .args .w) (now (start (loopOf t) .args .e)) (now (start (loopOf t) .args .q)) (start (loopOf t) .args .r) (start (loopOf t) .args .n)
-    (suc (loopOf t .loop .i - 1)) (loopOf t .loop .c) (loopOf t .loop .q)
-at t =
-    let i = t .before .before .before .before .before in
-    let z : suc (loopOf t .loop .i - 1) ≡ loopOf t .loop .i = omega (arith, i .loop-test .taken) in
-    rw z (loopOf t .loop .inv)
+same-length-2 : tie.Need-same-length-2
+same-length-2 c = search needs
 
-abbrev blockOf : tie.Then1 Inv-loop μ-loop → tie.At-loop Inv-loop μ-loop
-blockOf d = d .before .before .before .before .before
-
-lent : (d : tie.Then1 Inv-loop μ-loop) → 0 < length (now (start (blockOf d) .args .spreads))
-lent d = d .before .has-mark .ensures (d .if1 .taken) .0
-
-room : (d : tie.Then1 Inv-loop μ-loop) → MarkRoom (start (blockOf d) .args .w) (start (blockOf d) .args .r) (blockOf d .loop .i) (d .before .before .edges-if .result) (blockOf d .loop .c) (length (blockOf d .loop .q))
-room d = d .before .has-mark .ensures (d .if1 .taken) .1
-
-place : (d : tie.Then1 Inv-loop μ-loop) → (blockOf d .loop .i - 1) / 4 < length (blockOf d .loop .q)
-place d =
-    let i = d .before .before .before .before in
-    let l = blockOf d in
-    omega (arith, i .loop-test .taken, l .loop .inv .low, l .loop .inv .size, start l .pre .0)
-
-add-c : tie.Need-add-c Inv-loop μ-loop
-add-c c = record { fits = omega (arith, c .before .before .before .before .pre .0) }
-
-loop-holds : tie.Need-loop-holds Inv-loop μ-loop
-loop-holds c = mark-none (c .before .before .before .before .pre .1 .0)
-
-sub-j : tie.Need-sub-j Inv-loop μ-loop
-sub-j c = omega arith
-
-shared-slice-read-y : tie.Need-shared-slice-read-y Inv-loop μ-loop
-shared-slice-read-y c =
-    let i = c .before in
-    omega (arith, start (i .before) .pre .0, i .before .loop .inv .low, i .loop-test .taken)
-
-edges-if-requires : tie.Need-edges-if-requires Inv-loop μ-loop
-edges-if-requires c κs = λ h. start (c .before .before) .pre .1 .1 h .1
-
-has-mark-requires : tie.Need-has-mark-requires Inv-loop μ-loop
-has-mark-requires c κs = search needs
-
-sub-d : tie.Need-sub-d Inv-loop μ-loop
-sub-d c = room c .less
-
-test-at-requires : tie.Need-test-at-requires Inv-loop μ-loop
-test-at-requires c κs = search needs
-
-mark-byte-requires : tie.Need-mark-byte-requires Inv-loop μ-loop
-mark-byte-requires c κs =
-    let d = c .before .before in
-    let l = blockOf d in
-    let s = start l in
-    let m = room d in (
-      (test-small (c .test-at .result) (s .args .w) (ltb (l .loop .c - d .before .before .edges-if .result) (s .args .r)) (c .test-at .ensures) (m .flag .1), m .queue, omega (arith, mark-le (s .pre .1 .0) (l .loop .inv), s .pre .0)),
-      s .pre .1 .1 (lent d),
-    )
-
-cast-q : tie.Need-cast-q Inv-loop μ-loop
-cast-q c = record { fits = c .mark-byte .ensures .1 }
-
-slice-write-q : tie.Need-slice-write-q Inv-loop μ-loop
-slice-write-q c = place (c .before .before .before)
-
-sub-i : tie.Need-sub-i Inv-loop μ-loop
-sub-i c =
-    let d = c .before .before .before in
-    let i = d .before .before .before .before in
-    omega (arith, room d .whole, i .loop-test .taken)
-
-loop-less : tie.Need-loop-less Inv-loop μ-loop
-loop-less c = omega (arith, c .before .before .before .before .before .before .before .loop-test .taken)
-
-loop-again : tie.Need-loop-again Inv-loop μ-loop
-loop-again c =
-    let t = c .before in
-    let d = t .before .before in
-    let k = d .before .before in
-    let i = k .before .before in
-    let l = i .before in
-    let s = start l in
-    marked-byte (s .pre .1 .0) (l .loop .q) (l .loop .i) (l .loop .c) (k .edges-if .result) (getD (now (s .args .e)) ((l .loop .i - 1) / 4) 0) (t .test-at .result) (c .mark-byte .result)
-    (i .loop-test .taken) refl (l .loop .inv) (room d) (k .edges-if .ensures .0 (lent d)) (place d) (t .test-at .ensures) (c .mark-byte .ensures .0)
-
-record-at-requires : tie.Need-record-at-requires Inv-loop μ-loop
-record-at-requires c κs =
-    let i = c .before .before .before .before in
-    let l = i .before in
-    omega (arith, start l .pre .0, l .loop .inv .low, i .loop-test .taken)
-
-add-d : tie.Need-add-d Inv-loop μ-loop
-add-d c = search needs
-
-cast-d : tie.Need-cast-d Inv-loop μ-loop
-cast-d c = search needs
-
-sub-d-2 : tie.Need-sub-d-2 Inv-loop μ-loop
-sub-d-2 c =
-    let x = c .record-at .ensures in
-    down (start (loopOf c) .pre .1 .0) (at c) (x .1) (x .0) .0
-
-mark-record-requires : tie.Need-mark-record-requires Inv-loop μ-loop
-mark-record-requires c κs =
-    let t = c .before in
-    let l = loopOf t in
-    let s = start l in
-    let x = t .record-at .ensures in
-    let d = down (s .pre .1 .0) (at t) (x .1) (x .0) .0 in
-    let k = inside (s .pre .1 .0) (at t) (x .1) (x .0) .1 in
-    let z = l .loop .inv .size in
-    (omega (arith, d, k, z, s .pre .0), x .1, omega (arith, at t .low, z, s .pre .0), omega (arith, z, s .pre .0))
-
-loop-less-2 : tie.Need-loop-less-2 Inv-loop μ-loop
-loop-less-2 c = omega (arith, c .before .before .before .before .before .before .before .before .before .loop-test .taken)
-
-loop-again-2 : tie.Need-loop-again-2 Inv-loop μ-loop
-loop-again-2 c =
-    let t = c .before .before .before .before in
-    let x = t .record-at .ensures in
-    mark-more (start (loopOf t) .pre .1 .0) (at t) (x .1) (x .0) (c .before .before .mark-record .ensures)
-
-same-length : tie.Need-same-length Inv-loop μ-loop
-same-length c = c .before .loop .inv .size
-
-returns : tie.Need-returns Inv-loop μ-loop
-returns c =
-    let l = c .before in
-    let z : l .loop .i ≡ 0 = omega (arith, c .loop-test .left) in
-    mark-done (rw z at (l .loop .inv))
+returns-2 : tie.Need-returns-2
+returns-2 c = search needs
 
 pub mark-spec : {M : Type 1} → statement M
 mark-spec =
     tie.close
-    (tie.spec
-    Inv-loop
-    μ-loop
-    add-c
-    loop-holds
-    sub-j
-    shared-slice-read-y
-    edges-if-requires
-    has-mark-requires
-    sub-d
-    test-at-requires
-    mark-byte-requires
-    cast-q
-    slice-write-q
-    sub-i
-    loop-less
-    loop-again
-    record-at-requires
-    add-d
-    cast-d
-    sub-d-2
-    mark-record-requires
-    loop-less-2
-    loop-again-2
-    same-length
-    returns)
+    (tie.spec mark-bytes-requires mark-singly-requires same-length returns same-length-2 returns-2)

@@ -67,9 +67,9 @@ returns c =
     let z : d + 0 ≡ d = omega arith in
     let n = u .edges-in .result in
     let ea : recordsOf 2 (a .mark-half .result) ≡ maskedAt (λ m. keptBy w (recordAt q m)) d (recordsOf 2 (s .args .x / 16)) =
-    rw z at (rw (x .wide .ensures .0) at (half-ok q w (d + 0) (x .wide .result) (a .mark-half .result) (g .four-in .result) (g .four-in .ensures .0 ∙ window-at q d 0 (v .window .result) (v .window .ensures .0) (omega arith)) (a .mark-half .ensures .0))) in
+    rw z at (rw (x .wide .ensures .0) at (half-ok q w (d + 0) (x .wide .result) (a .mark-half .result) (g .four-in .result) (g .four-in .ensures .0 ∙ window-at q d 0 (v .window .result) (v .window .ensures) (omega arith)) (a .mark-half .ensures .0))) in
     let eb : recordsOf 2 (c .mark-half2 .result) ≡ maskedAt (λ m. keptBy w (recordAt q m)) (d + n) (recordsOf 2 (s .args .x % 16)) =
-    rw (y .wide2 .ensures .0) at (half-ok q w (d + n) (y .wide2 .result) (c .mark-half2 .result) (f .four-in2 .result) (f .four-in2 .ensures .0 ∙ window-at q d n (v .window .result) (v .window .ensures .0) (small u)) (c .mark-half2 .ensures .0)) in (
+    rw (y .wide2 .ensures .0) at (half-ok q w (d + n) (y .wide2 .result) (c .mark-half2 .result) (f .four-in2 .result) (f .four-in2 .ensures .0 ∙ window-at q d n (v .window .result) (v .window .ensures) (small u)) (c .mark-half2 .ensures .0)) in (
       byte-ok (λ m. keptBy w (recordAt q m)) (s .args .x) d (a .mark-half .result) (c .mark-half2 .result) n (high u) ea eb (c .mark-half2 .ensures .1),
       omega (arith, a .mark-half .ensures .1, c .mark-half2 .ensures .1),
     )

@@ -1,0 +1,189 @@
+use Prim.Native.Nat.{suc, _-_, _/_, _<_}
+use mathlib.Core.Path.{_≡_, refl, _∙_}
+use lib.ListN.{length, getD}
+use lib.Dec.{ltb}
+use denote.Ref.{now}
+use Rattle.records.specs.Records.{recordOfCode, recordAt}
+use Rattle.restrict.specs.Restriction.{MarkRoom}
+use Rattle.restrict.proofs.Marking.{Marking, mark-none, mark-le, down, inside, mark-more, mark-done}
+use Rattle.restrict.proofs.Masking.{test-small, marked-byte}
+use borrow.Author.Needs.{needs}
+use native.Mathlib.Omega.{arith}
+use Rattle.restrict.proofs.mark_bytes.Statement.{statement}
+use Rattle.restrict.proofs.mark_bytes.Tie as tie
+
+abbrev Inv-loop : tie.InvT-loop
+Inv-loop spreads parts q₀ r n w i₀ c₀ q i c = Marking w q₀ r n i c q
+
+abbrev μ-loop : tie.MeasureT-loop
+μ-loop spreads parts q₀ r n w i₀ c₀ q i c = i
+
+abbrev start : tie.At-loop Inv-loop μ-loop → tie.Start Inv-loop μ-loop
+start l = l .before .before .before .before
+
+abbrev loopOf : tie.After-record-at Inv-loop μ-loop → tie.At-loop Inv-loop μ-loop
+loopOf t = t .before .before .before .before .before .before .before
+
+at : (t : tie.After-record-at Inv-loop μ-loop)
+    → Marking (start (loopOf t) .args .w) (now (start (loopOf t) .args .q)) (start (loopOf t) .args .r) (start (loopOf t) .args .n)
+    (suc (loopOf t .loop .i - 1)) (loopOf t .loop .c) (loopOf t .loop .q)
+at t =
+    let i = t .before .before .before .before .before .before in
+    let z : suc (loopOf t .loop .i - 1) ≡ loopOf t .loop .i = omega (arith, i .loop-test .taken) in
+    rw z (loopOf t .loop .inv)
+
+-- the record that is read is one of those that are as they were
+read : (t : tie.After-record-at Inv-loop μ-loop) → recordOfCode (t .record-at .result) ≡ recordAt (now (start (loopOf t) .args .q)) (loopOf t .loop .i - 1)
+read t =
+    let i = t .before .before .before .before .before .before in
+    t .record-at .ensures .0 ∙ loopOf t .loop .inv .front (loopOf t .loop .i - 1) (omega (arith, i .loop-test .taken))
+
+abbrev blockOf : tie.Then1 Inv-loop μ-loop → tie.At-loop Inv-loop μ-loop
+blockOf d = d .before .before .before .before .before
+
+room : (d : tie.Then1 Inv-loop μ-loop) → MarkRoom (start (blockOf d) .args .w) (start (blockOf d) .args .r) (blockOf d .loop .i) (d .before .before .edges-in .result) (blockOf d .loop .c) (length (blockOf d .loop .q))
+room d = d .before .has-mark .ensures (d .if1 .taken)
+
+place : (d : tie.Then1 Inv-loop μ-loop) → (blockOf d .loop .i - 1) / 4 < length (blockOf d .loop .q)
+place d =
+    let i = d .before .before .before .before in
+    let l = blockOf d in
+    omega (arith, i .loop-test .taken, l .loop .inv .low, l .loop .inv .size, start l .pre .0)
+
+add-c : tie.Need-add-c Inv-loop μ-loop
+add-c c = record { fits = omega (arith, c .before .before .before .pre .0) }
+
+loop-holds : tie.Need-loop-holds Inv-loop μ-loop
+loop-holds c = mark-none (c .before .before .before .pre .0 .2)
+
+sub-j : tie.Need-sub-j Inv-loop μ-loop
+sub-j c = omega arith
+
+slice-read-y : tie.Need-slice-read-y Inv-loop μ-loop
+slice-read-y c =
+    let i = c .before in
+    omega (arith, start (i .before) .pre .0, i .before .loop .inv .low, i .before .loop .inv .size, i .loop-test .taken)
+
+edges-in-requires : tie.Need-edges-in-requires Inv-loop μ-loop
+edges-in-requires c κs = start (c .before .before) .pre .1 .1
+
+has-mark-requires : tie.Need-has-mark-requires Inv-loop μ-loop
+has-mark-requires c κs = search needs
+
+sub-d : tie.Need-sub-d Inv-loop μ-loop
+sub-d c = room c .less
+
+test-at-requires : tie.Need-test-at-requires Inv-loop μ-loop
+test-at-requires c κs = search needs
+
+mark-byte-requires : tie.Need-mark-byte-requires Inv-loop μ-loop
+mark-byte-requires c κs =
+    let d = c .before .before in
+    let l = blockOf d in
+    let s = start l in
+    let m = room d in (
+      (test-small (c .test-at .result) (s .args .w) (ltb (l .loop .c - d .before .before .edges-in .result) (s .args .r)) (c .test-at .ensures) (m .flag .1), m .queue, omega (arith, mark-le (s .pre .0 .2) (l .loop .inv), s .pre .0)),
+      s .pre .1,
+    )
+
+cast-q : tie.Need-cast-q Inv-loop μ-loop
+cast-q c = record { fits = c .mark-byte .ensures .1 }
+
+slice-write-q : tie.Need-slice-write-q Inv-loop μ-loop
+slice-write-q c = place (c .before .before .before)
+
+sub-i : tie.Need-sub-i Inv-loop μ-loop
+sub-i c =
+    let d = c .before .before .before in
+    let i = d .before .before .before .before in
+    omega (arith, room d .whole, i .loop-test .taken)
+
+loop-less : tie.Need-loop-less Inv-loop μ-loop
+loop-less c = omega (arith, c .before .before .before .before .before .before .before .loop-test .taken)
+
+loop-again : tie.Need-loop-again Inv-loop μ-loop
+loop-again c =
+    let t = c .before in
+    let d = t .before .before in
+    let k = d .before .before in
+    let i = k .before .before in
+    let l = i .before in
+    let s = start l in
+    marked-byte (s .pre .0 .2) (l .loop .q) (l .loop .i) (l .loop .c) (k .edges-in .result) (getD (l .loop .q) ((l .loop .i - 1) / 4) 0) (t .test-at .result) (c .mark-byte .result)
+    (i .loop-test .taken) refl (l .loop .inv) (room d) (k .edges-in .ensures .0) (place d) (t .test-at .ensures) (c .mark-byte .ensures .0)
+
+record-at-requires : tie.Need-record-at-requires Inv-loop μ-loop
+record-at-requires c κs =
+    let i = c .before .before .before .before .before in
+    let l = i .before in
+    omega (arith, start l .pre .0, l .loop .inv .low, l .loop .inv .size, i .loop-test .taken)
+
+add-d : tie.Need-add-d Inv-loop μ-loop
+add-d c = search needs
+
+cast-d : tie.Need-cast-d Inv-loop μ-loop
+cast-d c = search needs
+
+sub-d-2 : tie.Need-sub-d-2 Inv-loop μ-loop
+sub-d-2 c =
+    let x = c .record-at .ensures in
+    down (start (loopOf c) .pre .0 .2) (at c) (x .1) (read c) .0
+
+mark-record-requires : tie.Need-mark-record-requires Inv-loop μ-loop
+mark-record-requires c κs =
+    let t = c .before in
+    let l = loopOf t in
+    let s = start l in
+    let x = t .record-at .ensures in
+    let d = down (s .pre .0 .2) (at t) (x .1) (read t) .0 in
+    let k = inside (s .pre .0 .2) (at t) (x .1) (read t) .1 in
+    let z = l .loop .inv .size in
+    (omega (arith, d, k, z, s .pre .0), x .1, omega (arith, at t .low, z, s .pre .0), omega (arith, z, s .pre .0))
+
+loop-less-2 : tie.Need-loop-less-2 Inv-loop μ-loop
+loop-less-2 c = omega (arith, c .before .before .before .before .before .before .before .before .before .before .loop-test .taken)
+
+loop-again-2 : tie.Need-loop-again-2 Inv-loop μ-loop
+loop-again-2 c =
+    let t = c .before .before .before .before in
+    let x = t .record-at .ensures in
+    mark-more (start (loopOf t) .pre .0 .2) (at t) (x .1) (read t) (c .before .before .mark-record .ensures)
+
+same-length : tie.Need-same-length Inv-loop μ-loop
+same-length c = c .before .loop .inv .size
+
+returns : tie.Need-returns Inv-loop μ-loop
+returns c =
+    let l = c .before in
+    let z : l .loop .i ≡ 0 = omega (arith, c .loop-test .left) in
+    mark-done (rw z at (l .loop .inv))
+
+pub mark-bytes-spec : {M : Type 1} → statement M
+mark-bytes-spec =
+    tie.close
+    (tie.spec
+    Inv-loop
+    μ-loop
+    add-c
+    loop-holds
+    sub-j
+    slice-read-y
+    edges-in-requires
+    has-mark-requires
+    sub-d
+    test-at-requires
+    mark-byte-requires
+    cast-q
+    slice-write-q
+    sub-i
+    loop-less
+    loop-again
+    record-at-requires
+    add-d
+    cast-d
+    sub-d-2
+    mark-record-requires
+    loop-less-2
+    loop-again-2
+    same-length
+    returns)
