@@ -1,5 +1,5 @@
 # `make run` prints the sample; `make test` passes everything, and its last line is rt's 'N passed, 0 failed'.
-.PHONY: run test format rust soak bench
+.PHONY: run test format rust soak bench beside
 
 # the program on document 01's example P2
 run:
@@ -29,3 +29,11 @@ soak: target/staticlib/libcapi.a
 # the library beside the same algorithms in plain Rust and beside what else one would use
 bench: target/staticlib/libcapi.a
 	cd rust && cargo bench --offline
+
+# union and difference beside another build of the library, in one program: make beside BEFORE=.../libcapi.a
+beside: target/staticlib/libcapi.a
+	mkdir -p target/beside
+	$(CC) -shared -o target/beside/before.so -Wl,--whole-archive $(BEFORE) -Wl,--no-whole-archive,-Bsymbolic,-z,notext
+	$(CC) -shared -o target/beside/now.so -Wl,--whole-archive $< -Wl,--no-whole-archive,-Bsymbolic,-z,notext
+	$(CC) -O2 -Iinclude -o target/beside/beside rust/benches/beside.c -ldl
+	target/beside/beside $${LOES_REPS:-9} target/beside/before.so target/beside/now.so

@@ -494,10 +494,12 @@ pub fn pack(width: u64, batch: &[u8], out: &mut [u8]) -> Result<usize, u64> {
 
 // ---- Union and difference, eight records at a time
 
+/// Record i.
 fn record(l: &[u8], i: usize) -> u8 {
     l[i / 4] >> (6 - 2 * (i % 4)) & 3
 }
 
+/// Record i set to x.
 fn put_record(l: &mut [u8], i: usize, x: u8) {
     let shift = 6 - 2 * (i % 4);
     l[i / 4] = l[i / 4] & !(3 << shift) | x << shift;
@@ -542,7 +544,7 @@ const fn parts() -> [u32; 256] {
     table
 }
 
-/// Entry 16 x + y: 256 times how many of the four pairs of bits are not 0, and those pairs.
+/// Entry 16 x + y: 512 times how many of the four pairs of bits are not 0, and those pairs.
 static RUNS: [u16; 256] = runs();
 
 const fn runs() -> [u16; 256] {
@@ -551,213 +553,265 @@ const fn runs() -> [u16; 256] {
     while i < 256 {
         let e = table[i / 32 * 16 + i % 16 / 2];
         let pair = (i / 16 % 2 + i % 2 * 2) as u16;
-        table[i] = if pair > 0 { e + e % 256 * 3 + 256 + pair } else { e };
+        table[i] = if pair > 0 { e + e % 256 * 3 + 512 + pair } else { e };
         i += 1;
     }
     table
 }
 
-/// Eight records from record i on.
-fn eight(l: &[u8], i: usize) -> usize {
+/// Eight records from record i on, in the upper bits.
+fn eight(l: &[u8], i: usize) -> u64 {
     let at = i / 4;
-    u32::from_be_bytes(l[at..at + 4].try_into().unwrap()) as usize >> (16 - 2 * (i % 4)) & 0xFFFF
+    u64::from(u32::from_be_bytes(l[at..at + 4].try_into().unwrap())) << (32 + 2 * (i % 4))
 }
 
-/// A run of records and how many.
+/// Four records behind the first n of such eight.
+fn four(x: u64, n: usize) -> usize {
+    (x << (2 * n) >> 56) as usize
+}
+
+/// A run of records: so many bits, two to a record.
 #[derive(Clone, Copy)]
-struct Run(usize, usize);
+struct Run {
+    records: u64,
+    bits: usize,
+}
 
 impl Run {
+    /// A run, and one behind it.
     fn and(self, other: Run) -> Run {
-        Run((self.0 << (2 * other.1)) + other.0, self.1 + other.1)
+        Run { records: (self.records << other.bits) + other.records, bits: self.bits + other.bits }
     }
 
+    /// The pairs of bits of x and y that are not 0.
     fn of(x: usize, y: usize) -> Run {
-        let h = usize::from(RUNS[16 * (x & 15) + (y & 15)]);
-        Run(h % 256, h / 256)
+        let h = RUNS[16 * (x & 15) + (y & 15)];
+        Run { records: u64::from(h % 256), bits: usize::from(h / 256) }
     }
 }
 
-/// A run put behind the first k records.
-fn append(out: &mut [u8], k: usize, Run(records, count): Run) {
-    let (at, p, n) = (k / 4, 2 * (k % 4), 2 * count);
-    let v = (((usize::from(out[at]) >> (8 - p)) << n) + records) << (40 - p - n);
-    out[at..at + 5].copy_from_slice(&v.to_be_bytes()[3..]);
+/// A run put behind the first `bits` bits. What is behind it is cleared.
+fn append(out: &mut [u8], bits: usize, run: Run) {
+    let (at, p, n) = (bits / 8, bits % 8, run.bits);
+    let bytes = &mut out[at..at + 8];
+    let v = ((((u64::from(bytes[0]) >> (8 - p)) << n) + run.records) * 2) << (63 - p - n);
+    bytes.copy_from_slice(&v.to_be_bytes());
 }
 
-/// Two flags for each record of the union and behind them for each member: in the first, in the second.
+/// The union's records, and behind them for each member two flags: in the first, in the second.
 struct Merged {
     queue: Vec<u8>,
-    edges: Vec<u8>,
     records: usize,
     members: usize,
-    ends: [usize; MAX_WIDTH],
 }
 
-fn push(queue: &mut [u8], tail: usize, flags: u8) -> usize {
-    put_record(queue, tail, flags);
-    tail + usize::from(flags > 0)
+/// A record put behind the first k, which grow by it if it is not 0.
+fn push(queue: &mut [u8], k: usize, x: u8) -> usize {
+    put_record(queue, k, x);
+    k + usize::from(x > 0)
+}
+
+/// The records behind the first k cleared, up to the end of their byte.
+fn seal(l: &mut [u8], k: usize) {
+    for i in k..k.next_multiple_of(4) {
+        put_record(l, i, 0);
+    }
 }
 
 /// Four flags merged: the union's records, and the flags that they push.
-fn merge_four(f: usize, x: usize, y: usize) -> (usize, Run) {
-    let u = usize::from(SPREAD[f & 0xF00 | x & 0xFF]);
-    let v = usize::from(SPREAD[f << 4 & 0xF00 | y & 0xFF]);
-    (u | v, Run::of(u / 16, v / 16).and(Run::of(u % 16, v % 16)))
+fn merge_four(f: usize, x: usize, y: usize) -> (u8, Run) {
+    let u = usize::from(SPREAD[f & 0xF00 | x]);
+    let v = usize::from(SPREAD[f << 4 & 0xF00 | y]);
+    ((u | v) as u8, Run::of(u / 16, v / 16).and(Run::of(u % 16, v % 16)))
 }
 
-/// Breadth first: both operands are read strictly in sequence.
-fn merge(width: usize, a: &[u8], ra: usize, b: &[u8], rb: usize) -> Merged {
-    let mut queue = vec![0u8; (2 * (ra + rb) + 4) / 4 + 5];
-    let mut edges = vec![0u8; (ra + rb + 4) / 4];
-    let mut ends = [0; MAX_WIDTH];
-    let (mut ia, mut ib) = (0, 0);
-    let mut tail = push(&mut queue, 0, u8::from(ra > 0) + 2 * u8::from(rb > 0));
+/// Records taken of the first and of the second, and the queue's end.
+struct Positions {
+    a: usize,
+    b: usize,
+    tail: usize,
+}
+
+/// Record i of the union, in the place of its flags.
+fn merge_record(a: &[u8], b: &[u8], queue: &mut [u8], i: usize, at: &mut Positions) {
+    let flags = record(queue, i);
+    let (mut x, mut y) = (0, 0);
+    if flags & 1 != 0 {
+        x = record(a, at.a);
+        at.a += 1;
+    }
+    if flags & 2 != 0 {
+        y = record(b, at.b);
+        at.b += 1;
+    }
+    put_record(queue, i, x | y);
+    at.tail = push(queue, at.tail, x >> 1 | y >> 1 << 1);
+    at.tail = push(queue, at.tail, x & 1 | (y & 1) << 1);
+}
+
+/// The records of the union in whole blocks of eight, from byte j up to record `end`, in the place of their flags.
+fn merge_blocks(a: &[u8], b: &[u8], queue: &mut [u8], j: usize, end: usize, at: &mut Positions) {
+    let (front, back) = queue.split_at_mut(end / 4);
+    let (mut ia, mut ib, mut tail) = (at.a, at.b, 2 * (at.tail - end / 4 * 4));
+    for place in front[j..].chunks_exact_mut(2) {
+        let f = PARTS[usize::from(place[0])] as usize;
+        let g = PARTS[usize::from(place[1])] as usize;
+        let (x, y) = (eight(a, ia), eight(b, ib));
+        let (na, nb) = (f & 15, f >> 12 & 15);
+        let (high, h) = merge_four(f, four(x, 0), four(y, 0));
+        let (low, k) = merge_four(g, four(x, na), four(y, nb));
+        place.copy_from_slice(&[high, low]);
+        let run = h.and(k);
+        append(back, tail, run);
+        ia += (f + g) & 15;
+        ib += ((f >> 12) + (g >> 12)) & 15;
+        tail += run.bits;
+    }
+    *at = Positions { a: ia, b: ib, tail: tail / 2 + end / 4 * 4 };
+}
+
+/// Breadth first: both operands are read strictly in sequence. Each level's end is noted.
+fn merge(a: &[u8], ra: usize, b: &[u8], rb: usize, ends: &mut [usize]) -> Merged {
+    let mut queue = vec![0u8; (2 * (ra + rb) + 4) / 4 + 8];
+    let tail = push(&mut queue, 0, u8::from(ra > 0) + 2 * u8::from(rb > 0));
+    let mut at = Positions { a: 0, b: 0, tail };
     let mut i = 0;
-    for end in &mut ends[..width] {
-        let level = tail;
+    for end in ends {
+        let level = at.tail;
         while i < level {
-            if level - i >= 8 && i % 4 == 0 {
-                let j = i / 4;
-                let f = PARTS[usize::from(queue[j])] as usize;
-                let g = PARTS[usize::from(queue[j + 1])] as usize;
-                let (x, y) = (eight(a, ia), eight(b, ib));
-                let (na, nb) = (f & 15, f >> 12 & 15);
-                let (high, h) = merge_four(f, x >> 8, y >> 8);
-                let (low, k) = merge_four(g, x >> (8 - 2 * na) & 0xFF, y >> (8 - 2 * nb) & 0xFF);
-                edges[j..j + 2].copy_from_slice(&[high as u8, low as u8]);
-                let run = h.and(k);
-                append(&mut queue, tail, run);
-                ia += na + (g & 15);
-                ib += nb + (g >> 12 & 15);
-                tail += run.1;
-                i += 8;
-                continue;
+            if i % 4 == 0 && level - i >= 8 {
+                merge_blocks(a, b, &mut queue, i / 4, level, &mut at);
+                i += (level - i) / 8 * 8;
+            } else {
+                merge_record(a, b, &mut queue, i, &mut at);
+                i += 1;
             }
-            let flags = record(&queue, i);
-            let (mut x, mut y) = (0, 0);
-            if flags & 1 != 0 {
-                x = record(a, ia);
-                ia += 1;
-            }
-            if flags & 2 != 0 {
-                y = record(b, ib);
-                ib += 1;
-            }
-            put_record(&mut edges, i, x | y);
-            tail = push(&mut queue, tail, x >> 1 | y >> 1 << 1);
-            tail = push(&mut queue, tail, x & 1 | (y & 1) << 1);
-            i += 1;
         }
         *end = 2 * level;
     }
-    Merged { queue, edges, records: i, members: tail - i, ends }
+    Merged { queue, records: i, members: at.tail - i }
 }
 
-/// The records less the edges under which no member's flags are w, backwards, in the front of the queue.
-fn mark(merged: &mut Merged, w: usize) {
-    let (queue, r) = (&mut merged.queue, merged.records);
-    let mut child = r + merged.members;
-    let mut i = r;
+/// How many edges a byte has.
+fn edges_in(x: usize) -> usize {
+    let f = PARTS[x & 0xFF] as usize;
+    (f + (f >> 12)) & 15
+}
+
+/// Two records in x, less the edges whose entries in v, taken in order, fail a test.
+fn mark_half<const TEST: usize>(x: usize, v: usize) -> usize {
+    PARTS[usize::from(SPREAD[256 * (x & 15) + v])] as usize >> (16 + 4 * TEST) & 15
+}
+
+/// Whole bytes of the first i records marked, while their entries, before entry `child`, stand behind them and not before `from`.
+fn mark_bytes<const TEST: usize>(queue: &mut [u8], mut i: usize, mut child: usize, from: usize) -> (usize, usize) {
     while i > 0 {
-        let y = usize::from(merged.edges[(i - 1) / 4]);
-        let count = |x: usize| (PARTS[x & 0xFF] & 15) as usize + (PARTS[x & 0xFF] >> 12 & 15) as usize;
-        let edges = count(y);
-        if i % 4 == 0 && child >= i + edges && (child <= r || child - edges >= r) {
-            child -= edges;
-            let entries = eight(queue, child);
-            let test = if child < r { 16 } else { 16 + 4 * w };
-            let half = |x: usize, v: usize| PARTS[usize::from(SPREAD[256 * (x & 15) + (v & 0xFF)])] as usize >> test & 15;
-            let n = count(y >> 4);
-            queue[i / 4 - 1] = (half(y >> 4, entries >> 8) << 4 | half(y & 15, entries >> (8 - 2 * n) & 0xFF)) as u8;
-            i -= 4;
-            continue;
+        let y = usize::from(queue[i / 4 - 1]);
+        let edges = edges_in(y);
+        if child < edges + i.max(from) {
+            break;
         }
-        i -= 1;
-        let x = record(&merged.edges, i);
-        let mut kept = 0;
-        for side in [1, 2] {
-            if x & side != 0 {
-                child -= 1;
-                let entry = record(queue, child);
-                let keep = if child < r { entry > 0 } else { usize::from(entry) == w };
-                kept |= if keep { side } else { 0 };
-            }
-        }
-        put_record(queue, i, kept);
+        child -= edges;
+        let entries = eight(queue, child);
+        let high = mark_half::<TEST>(y / 16, four(entries, 0));
+        let low = mark_half::<TEST>(y, four(entries, edges_in(y / 16)));
+        queue[i / 4 - 1] = (high << 4 | low) as u8;
+        i -= 4;
     }
+    (i, child)
+}
+
+/// Record i marked: its entries are before entry `child`. Tells where they begin.
+fn mark_record(queue: &mut [u8], r: usize, w: u8, i: usize, mut child: usize) -> usize {
+    let x = record(queue, i);
+    let mut kept = 0;
+    for side in [1, 2] {
+        if x & side != 0 {
+            child -= 1;
+            let entry = record(queue, child);
+            let keep = if child < r { entry > 0 } else { entry == w };
+            kept |= if keep { side } else { 0 };
+        }
+    }
+    put_record(queue, i, kept);
+    child
+}
+
+/// The records less the edges under which no member's flags are w, backwards, in their place.
+fn mark<const W: usize>(merged: &mut Merged) {
+    let (queue, r) = (&mut merged.queue[..], merged.records);
+    let (mut i, mut child) = (r, r + merged.members);
+    while i > 0 {
+        if i % 4 == 0 {
+            (i, child) = if child > r { mark_bytes::<W>(queue, i, child, r) } else { mark_bytes::<0>(queue, i, child, 0) };
+        }
+        if i > 0 {
+            i -= 1;
+            child = mark_record(queue, r, W as u8, i, child);
+        }
+    }
+}
+
+/// The records of a byte that have an edge.
+fn byte_run(x: u8) -> Run {
+    let f = PARTS[usize::from(x)] as usize;
+    Run::of(f >> 8 & 15, f >> 4 & 15)
 }
 
 /// The first r records that have an edge, moved together. Tells how many.
 fn compact(queue: &[u8], r: usize, out: &mut [u8]) -> usize {
-    let byte = |x: u8| {
-        let f = PARTS[usize::from(x)] as usize;
-        Run::of(f >> 8 & 15, f >> 4 & 15)
-    };
-    let (mut i, mut k) = (0, 0);
-    while i < r {
-        if r - i >= 16 && i % 4 == 0 && k / 4 + 4 < out.len() {
-            let [a, b, c, d] = queue[i / 4..i / 4 + 4].try_into().unwrap();
-            let run = byte(a).and(byte(b)).and(byte(c).and(byte(d)));
-            append(out, k, run);
-            k += run.1;
-            i += 16;
-        } else {
-            k = push(out, k, record(queue, i));
-            i += 1;
-        }
+    let mut bits = 0;
+    for bytes in queue[..r / 4].chunks_exact(4) {
+        let run = byte_run(bytes[0]).and(byte_run(bytes[1])).and(byte_run(bytes[2]).and(byte_run(bytes[3])));
+        append(out, bits, run);
+        bits += run.bits;
     }
-    for i in k..k.next_multiple_of(4).min(4 * out.len()) {
-        put_record(out, i, 0);
+    let mut k = bits / 2;
+    for i in r / 16 * 16..r {
+        k = push(out, k, record(queue, i));
     }
+    seal(out, k);
     k
 }
 
-fn ones_between(edges: &[u8], from: usize, to: usize) -> usize {
-    if from == to {
-        return 0;
-    }
-    let first = usize::from(edges[from / 8] & (0xFF >> (from % 8)));
-    let last = if to % 8 == 0 { 0xFF } else { !(0xFFu8 >> (to % 8)) };
-    let (i, j) = (from / 8, (to - 1) / 8);
-    let count = |x: usize| usize::from(TALLIES[x] % 1_024);
-    if i == j {
-        return count(first & usize::from(last));
-    }
-    let middle: usize = edges[i + 1..j].iter().map(|x| count(usize::from(*x))).sum();
-    count(first) + middle + count(usize::from(edges[j] & last))
-}
-
-/// Count and level ends from the edges alone.
-fn finish(width: usize, edges: &[u8], records: usize, out: &mut [u8]) -> Result<usize, u64> {
+/// Level ends from the edges alone. Tells the count.
+fn level_ends(edges: &[u8], records: usize, ends: &mut [usize]) -> usize {
     let roots = usize::from(records > 0);
-    let mut ends = [0; MAX_WIDTH];
-    let (mut ones, mut from) = (0, 0);
-    for end in &mut ends[..width] {
+    let count = |x: u8| usize::from(TALLIES[usize::from(x)] % 1_024);
+    let (mut seen, mut whole, mut ones) = (0, 0, 0);
+    for end in ends {
         *end = 2 * (roots + ones);
-        ones += ones_between(edges, from, *end);
-        from = *end;
+        whole += edges[seen..*end / 8].iter().map(|x| count(*x)).sum::<usize>();
+        seen = *end / 8;
+        ones = whole + count((u16::from(edges[seen]) >> (8 - *end % 8)) as u8);
     }
-    write(width, roots + ones - records, &ends, edges, out)
+    roots + ones - records
 }
 
-/// The union of two encodings of one width.
-fn merged(a: &[u8], b: &[u8]) -> Result<(usize, Merged), u64> {
+/// Both opened: they are of one width.
+fn open_both(a: &[u8], b: &[u8]) -> Result<(Opened, Opened), u64> {
     let (e, f) = (open(a)?, open(b)?);
     if e.width != f.width {
         return Err(13);
     }
-    Ok((e.width, merge(e.width, &a[e.edges..], e.bits / 2, &b[f.edges..], f.bits / 2)))
+    Ok((e, f))
 }
 
 pub fn union(a: &[u8], b: &[u8], out: &mut [u8]) -> Result<usize, u64> {
-    let (width, merged) = merged(a, b)?;
-    write(width, merged.members, &merged.ends, &merged.edges, out)
+    let (e, f) = open_both(a, b)?;
+    let mut ends = [0; MAX_WIDTH];
+    let mut merged = merge(&a[e.edges..], e.bits / 2, &b[f.edges..], f.bits / 2, &mut ends[..e.width]);
+    seal(&mut merged.queue, merged.records);
+    write(e.width, merged.members, &ends, &merged.queue, out)
 }
 
 pub fn difference(a: &[u8], b: &[u8], out: &mut [u8]) -> Result<usize, u64> {
-    let (width, mut merged) = merged(a, b)?;
-    mark(&mut merged, 1);
-    let records = compact(&merged.queue, merged.records, &mut merged.edges);
-    finish(width, &merged.edges, records, out)
+    let (e, f) = open_both(a, b)?;
+    let mut ends = [0; MAX_WIDTH];
+    let mut merged = merge(&a[e.edges..], e.bits / 2, &b[f.edges..], f.bits / 2, &mut ends[..e.width]);
+    mark::<1>(&mut merged);
+    let mut edges = vec![0u8; e.bits.div_ceil(8) + 8];
+    let records = compact(&merged.queue, merged.records, &mut edges);
+    let count = level_ends(&edges, records, &mut ends[..e.width]);
+    write(e.width, count, &ends, &edges, out)
 }

@@ -107,15 +107,17 @@ pub fn joins<S: Subject>(rng: &mut Rng) {
 /// Operands of just so many edge bits or bytes that a join begins to use tables or larger rooms.
 pub fn join_limits<S: Subject>(rng: &mut Rng) {
     for width in [9, 33, 100] {
-        for records in 254..=258 {
-            let first = rng.between(width, records - width);
-            let [a, b] = [first, records - first].map(|records| set_with_records(rng, width, records).lay());
-            assert_eq!(a.bits() + b.bits(), 2 * records);
-            check_join::<S>(rng, &a, &b);
+        for bits in [8 * width + 256, 16 * width + 256] {
+            for records in bits / 2 - 2..=bits / 2 + 2 {
+                let first = rng.between(width, records - width);
+                let [a, b] = [first, records - first].map(|records| set_with_records(rng, width, records).lay());
+                assert_eq!(a.bits() + b.bits(), 2 * records);
+                check_join::<S>(rng, &a, &b);
+            }
         }
     }
     let length = |width: usize, bits: usize| 24 + 4 * width + bits.div_ceil(8) + 8 * bits.div_ceil(65_536) + 2 * bits.div_ceil(512);
-    for (width, limit) in [(17, 2_048), (64, 2_048), (20, 16_384), (256, 16_384)] {
+    for (width, limit) in [(12, 512), (60, 512), (17, 2_048), (64, 2_048), (20, 16_384), (256, 16_384)] {
         let bits = (0..).step_by(2).take_while(|bits| length(width, *bits) <= limit).last().unwrap();
         let [below, above] = [bits, bits + 2].map(|bits| set_with_records(rng, width, bits / 2).lay());
         assert!(below.encode().len() <= limit && limit < above.encode().len());
@@ -198,6 +200,14 @@ pub fn at_the_limit<S: Subject>(rng: &mut Rng) {
         let part = Set::new(width, set.keys.iter().filter(|_| rng.one_in(3)).cloned()).lay();
         check_join::<S>(rng, &laid, &part);
         check_join::<S>(rng, &laid, &laid);
+    }
+    // two halves that share only their root: the union's records and its members fill the queue of a join
+    let halves = [0, 1].map(|first| half_set(first).lay());
+    assert_eq!(halves.each_ref().map(Laid::bits), [plain::MAX_EDGES; 2]);
+    let [x, y] = halves.map(|laid| laid.encode());
+    for (a, b) in [(&x, &y), (&y, &x)] {
+        check_writes(rng, &|| "union of two halves".to_string(), &Err(5), |out| S::union(a, b, out));
+        check_writes(rng, &|| "difference of two halves".to_string(), &Ok(a.clone()), |out| S::difference(a, b, out));
     }
     // the widest full sets
     let full = full_set(17);

@@ -66,6 +66,11 @@ pub fn full_set(width: usize) -> Set {
     Set::new(width, (0..1 << width).map(|number| number_key(width, number)))
 }
 
+/// All keys of 19 bits with one first bit but six: 262,140 records, and as many members as they can have.
+pub fn half_set(first: usize) -> Set {
+    Set::new(19, (6..1 << 18).map(|number| number_key(19, (first << 18) + number)))
+}
+
 /// About so many keys at most, in one of many shapes.
 pub fn random_set(rng: &mut Rng, width: usize, most: usize) -> Set {
     let n = match rng.below(4) {
