@@ -1,5 +1,5 @@
-/* Union and difference of several builds of the library, called in turns in one program on the same inputs: for each call the
- * least time of each build, in nanoseconds, and its ratio to the first one's. Prints markdown; ends with 1 if two results differ.
+/* Every call of several builds of the library, taken in turns in one program on the same inputs: for each call the least time
+ * of each build, in nanoseconds, and its ratio to the first one's. Prints markdown; ends with 1 if two results differ.
  *
  *     beside REPETITIONS BUILD.so...
  */
@@ -13,15 +13,24 @@
 
 #include "loes.h"
 
-enum { ROOM = 70000, MOST = 60000, LONGEST = 32, BUILDS = 8 };
+enum { ROOM = 70000, MOST = 60000, LONGEST = 32, BUILDS = 8, ASKED = 200 };
 
-typedef loes_answer pack(uint64_t, const uint8_t *, size_t, uint8_t *, size_t);
-typedef loes_answer join(const uint8_t *, size_t, const uint8_t *, size_t, uint8_t *, size_t);
+/* The functions of a build. */
+#define FUNCTIONS(F) \
+    F(open) F(pack) F(union) F(difference) F(contains) F(index_of) F(lower_bound) F(key_at) F(rank) F(advance) \
+    F(opened_contains) F(opened_index_of) F(opened_lower_bound) F(opened_key_at) F(opened_rank) F(opened_advance) F(opened_next)
+#define MEMBER(name) __typeof__(loes_##name) *name##_;
+struct build {
+    FUNCTIONS(MEMBER)
+};
 
-static void *builds[BUILDS];
+static struct build builds[BUILDS];
 static int build_count, repetitions, wrong;
 static uint8_t keys[MOST][LONGEST], batch[MOST * LONGEST], first[ROOM], second[ROOM], out[ROOM], expected[ROOM];
-static size_t key_bytes;
+static uint8_t asked[ASKED][LONGEST];
+static uint64_t indices[ASKED], offsets[ASKED], path[LOES_CURSOR_OFFSETS];
+static size_t key_bytes, batch_bytes, first_bytes, second_bytes;
+static loes_opened opened;
 static uint64_t state;
 
 /* splitmix64 */
@@ -37,6 +46,8 @@ static double now(void) {
     clock_gettime(CLOCK_MONOTONIC, &time);
     return time.tv_sec * 1e9 + time.tv_nsec;
 }
+
+/* ---- Keys ---- */
 
 static int in_order(const void *x, const void *y) { return memcmp(x, y, key_bytes); }
 
@@ -82,62 +93,155 @@ static int not_third(size_t i) { return i % 3 != 2; }
 static int not_first(size_t i) { return i % 3 != 0; }
 
 static size_t packed(size_t n, chosen *has, uint8_t *to) {
-    size_t length = 0;
+    batch_bytes = 0;
     for (size_t i = 0; i < n; i++)
         if (has(i)) {
-            memcpy(batch + length, keys[i], key_bytes);
-            length += key_bytes;
+            memcpy(batch + batch_bytes, keys[i], key_bytes);
+            batch_bytes += key_bytes;
         }
-    loes_answer a = ((pack *)dlsym(builds[0], "loes_pack"))(8 * key_bytes, batch, length, to, ROOM);
+    loes_answer a = builds[0].pack_(8 * key_bytes, batch, batch_bytes, to, ROOM);
     if (a.kind != LOES_VALUE) exit(2);
     return a.value;
 }
 
-static void measure(const char *name, const char *call, size_t a, size_t b) {
+/* ---- What is timed: each tells a number that must be the same for every build ---- */
+
+typedef uint64_t timed(const struct build *);
+
+static uint64_t opening(const struct build *b) { return b->open_(first, first_bytes).count; }
+static uint64_t packing(const struct build *b) { return b->pack_(8 * key_bytes, batch, batch_bytes, out, ROOM).value; }
+static uint64_t uniting(const struct build *b) { return b->union_(first, first_bytes, second, second_bytes, out, ROOM).value; }
+static uint64_t subtracting(const struct build *b) { return b->difference_(first, first_bytes, second, second_bytes, out, ROOM).value; }
+
+/* A question put to bytes, and the same behind the check ASKED times. */
+#define QUESTION(name, ...) \
+    static uint64_t name(const struct build *b) { \
+        const size_t i = 0; \
+        return b->name##_(first, first_bytes, __VA_ARGS__).value; \
+    } \
+    static uint64_t opened_##name(const struct build *b) { \
+        uint64_t sum = 0; \
+        for (size_t i = 0; i < ASKED; i++) sum = 31 * sum + b->opened_##name##_(opened, first, first_bytes, __VA_ARGS__).value; \
+        return sum; \
+    }
+QUESTION(contains, asked[i], key_bytes)
+QUESTION(index_of, asked[i], key_bytes)
+QUESTION(lower_bound, asked[i], key_bytes)
+QUESTION(key_at, indices[i], out, key_bytes)
+QUESTION(rank, offsets[i])
+
+/* The first step, and every step behind the check, with the test of the cursor and without. */
+static uint64_t advance(const struct build *b) {
+    memset(path, 0, sizeof path);
+    return b->advance_(first, first_bytes, LOES_BEFORE, path, LOES_CURSOR_OFFSETS, out, key_bytes).value;
+}
+#define WALK(name) \
+    static uint64_t name(const struct build *b) { \
+        loes_step step = {LOES_VALUE, 1, LOES_BEFORE}; \
+        uint64_t sum = 0; \
+        memset(path, 0, sizeof path); \
+        while (step.value > 0) { \
+            step = b->name##_(opened, first, first_bytes, step.state, path, LOES_CURSOR_OFFSETS, out, key_bytes); \
+            sum = 31 * sum + out[key_bytes - 1]; \
+        } \
+        return sum; \
+    }
+WALK(opened_advance)
+WALK(opened_next)
+
+/* ---- Measuring ---- */
+
+/* A call that does so many things, of bytes written at the front of `out`. */
+static void measure(const char *name, const char *call, timed *run, size_t things) {
     double least[BUILDS];
-    size_t length = 0;
-    int calls = a + b < 4000 ? 20 : 1, turns = a + b < 20000 ? 20 * repetitions : repetitions;
+    uint64_t result = 0;
+    int calls = 1, turns = repetitions;
+    double start = now();
+    run(&builds[0]);
+    double once = now() - start;
+    while (calls < 20 && once * calls < 20000) calls++;
+    if (once * calls < 100000) turns *= 20;
     for (int k = 0; k < build_count; k++) least[k] = 1e18;
     for (int turn = 0; turn < turns; turn++)
         for (int k = 0; k < build_count; k++) {
-            join *f = (join *)dlsym(builds[k], call);
-            loes_answer answer = {0, 0};
-            double start = now();
-            for (int i = 0; i < calls; i++) answer = f(first, a, second, b, out, ROOM);
+            uint64_t told = 0;
+            memset(out, 0, sizeof out);
+            start = now();
+            for (int i = 0; i < calls; i++) told = run(&builds[k]);
             double time = (now() - start) / calls;
             if (time < least[k]) least[k] = time;
-            if (answer.kind != LOES_VALUE) exit(3);
-            if (k == 0) memcpy(expected, out, length = answer.value);
-            if (answer.value != length || memcmp(out, expected, length) != 0) wrong = 1;
+            if (turn == 0 && k == 0) {
+                result = told;
+                memcpy(expected, out, sizeof out);
+            }
+            if (told != result || memcmp(out, expected, sizeof out) != 0) wrong = 1;
         }
-    printf("| %s | %s | %zu, %zu | %.0f |", name, call + strlen("loes_"), a, b, least[0]);
-    for (int k = 1; k < build_count; k++) printf(" %.0f | %.3f |", least[k], least[k] / least[0]);
+    printf("| %s | %s | %.1f |", name, call, least[0] / things);
+    for (int k = 1; k < build_count; k++) printf(" %.1f | %.3f |", least[k] / things, least[k] / least[0]);
     puts("");
 }
 
-static void both(const char *name, size_t n, chosen *in_first, chosen *in_second) {
-    size_t a = packed(n, in_first, first), b = packed(n, in_second, second);
-    measure(name, "loes_union", a, b);
-    measure(name, "loes_difference", a, b);
+static void joins(const char *name, size_t n, chosen *in_first, chosen *in_second) {
+    first_bytes = packed(n, in_first, first);
+    second_bytes = packed(n, in_second, second);
+    measure(name, "union", uniting, 1);
+    measure(name, "difference", subtracting, 1);
+}
+
+/* Every call but the joins, on all n keys. Half of the questions are for members. */
+static void questions(const char *name, size_t n) {
+    first_bytes = packed(n, all, first);
+    opened = builds[0].open_(first, first_bytes);
+    for (size_t i = 0; i < ASKED; i++) {
+        for (size_t k = 0; k < key_bytes; k++) asked[i][k] = (uint8_t)next();
+        indices[i] = n ? next() % n : 0;
+        offsets[i] = n ? next() % opened.bits : 0;
+        if (n && i % 2 == 0) memcpy(asked[i], keys[indices[i]], key_bytes);
+    }
+    measure(name, "open", opening, 1);
+    measure(name, "pack", packing, 1);
+    measure(name, "contains", contains, 1);
+    measure(name, "index_of", index_of, 1);
+    measure(name, "lower_bound", lower_bound, 1);
+    measure(name, "key_at", key_at, 1);
+    measure(name, "rank", rank, 1);
+    measure(name, "advance", advance, 1);
+    measure(name, "opened_contains", opened_contains, ASKED);
+    measure(name, "opened_index_of", opened_index_of, ASKED);
+    measure(name, "opened_lower_bound", opened_lower_bound, ASKED);
+    measure(name, "opened_key_at", opened_key_at, ASKED);
+    measure(name, "opened_rank", opened_rank, ASKED);
+    measure(name, "opened_advance", opened_advance, n + 1);
+    measure(name, "opened_next", opened_next, n + 1);
+}
+
+static void both(const char *name, size_t n) {
+    questions(name, n);
+    joins(name, n, not_third, not_first);
 }
 
 static void sized(size_t width, size_t n) {
     char name[64];
     size_t kept = random_keys(width, n);
     snprintf(name, sizeof name, "%zu random keys of %zu bits", kept, width);
-    both(name, kept, not_third, not_first);
+    both(name, kept);
 }
 
 int main(int count, char **words) {
     repetitions = atoi(words[1]);
-    for (build_count = 0; build_count < count - 2; build_count++)
-        if (!(builds[build_count] = dlopen(words[build_count + 2], RTLD_NOW | RTLD_LOCAL))) return 4;
-    printf("| keys | call | bytes | first, ns |");
+    for (build_count = 0; build_count < count - 2; build_count++) {
+        void *library = dlopen(words[build_count + 2], RTLD_NOW | RTLD_LOCAL);
+        if (!library) return 4;
+#define FIND(name) builds[build_count].name##_ = dlsym(library, "loes_" #name);
+        FUNCTIONS(FIND)
+    }
+    printf("| keys | call | first, ns |");
     for (int k = 1; k < build_count; k++) printf(" %d, ns | ratio |", k + 1);
-    printf("\n|---|---|---|--:|");
+    printf("\n|---|---|--:|");
     for (int k = 1; k < build_count; k++) printf("--:|--:|");
     puts("");
-    both("clustered, 32 bits", clustered_keys(32, 256), not_third, not_first);
+    both("clustered, 32 bits", clustered_keys(32, 256));
+    both("clustered, 64 bits", clustered_keys(64, 500));
     static const size_t sizes[] = {14000, 4096, 1024, 256, 128, 64, 32, 16, 8, 4, 2, 1};
     for (size_t i = 0; i < sizeof sizes / sizeof *sizes; i++) sized(32, sizes[i]);
     sized(16, 20000);
@@ -147,13 +251,13 @@ int main(int count, char **words) {
     sized(256, 4);
     sized(256, 2);
     sized(8, 10);
-    both("clustered, 64 bits", clustered_keys(64, 500), not_third, not_first);
-    both("clustered, 64 bits, few", clustered_keys(64, 1), not_third, not_first);
-    both("every key of 8 bits", random_keys(8, 20000), not_third, not_first);
-    both("equal", random_keys(32, 1024), all, all);
-    both("apart", random_keys(32, 1024), even, odd);
-    both("the second empty", random_keys(32, 1024), all, none);
-    both("the first empty", random_keys(32, 1024), none, all);
-    both("both empty", random_keys(32, 1024), none, none);
+    both("clustered, 64 bits, few", clustered_keys(64, 1));
+    both("every key of 8 bits", random_keys(8, 20000));
+    sized(32, 0);
+    sized(256, 0);
+    joins("equal", random_keys(32, 1024), all, all);
+    joins("apart", random_keys(32, 1024), even, odd);
+    joins("the second empty", random_keys(32, 1024), all, none);
+    joins("the first empty", random_keys(32, 1024), none, all);
     return wrong;
 }

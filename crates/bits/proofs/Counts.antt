@@ -59,6 +59,14 @@ byte-more l n =
     let z : 8 * suc n ≡ 8 * n + 8 = omega arith in
     ap (bitsIn l) z ∙ bits-more l n 8 ∙ ap (λ x. bitsIn l (8 * n) ++ x) (byte-bits l n 8 (omega arith))
 
+-- from a byte on, one byte more
+pub byte-next : (l : Bytes) (from i : ℕ) → from ≤ i
+    → ones (bitsIn (drop from l) (8 * (i + 1 - from))) ≡ ones (bitsIn (drop from l) (8 * (i - from))) + ones (bits8 (getD l i 0))
+byte-next l from i h =
+    let z : i + 1 - from ≡ suc (i - from) = omega arith in
+    let q : from + (i - from) ≡ i = omega arith in
+    rw (z, byte-more (drop from l) (i - from), ones-append, getD-drop from l (i - from) 0, q)
+
 -- ---- The first bits of a byte are the bits of what is left when it is shifted
 front-value : (x k : ℕ) → x < 256 → k ≤ 8 → bitsValue (tabulate (λ (j : ℕ). odd (x / 2 ^ (7 - j))) k) 0 ≡ x / 2 ^ (8 - k)
 unfolding tabulate
@@ -71,7 +79,7 @@ front-value x (suc k) h l =
     let d : x / 2 ^ (8 - k) ≡ y / 2 = ap (λ n. x / 2 ^ n) z ∙ ap (λ n. x / n) (pow-suc 2 (7 - k)) ∙ sym (div-div-eq-div-mul x (2 ^ (7 - k)) 2) in
     bitsValue-snoc (tabulate f k) (f k) 0 ∙ rw (front-value x k h (omega arith), bit-odd y, w, d) (omega arith)
 
-count-byte : (x : ℕ) → x < 256 → ones (bits8 x) ≡ Count.ones x
+pub count-byte : (x : ℕ) → x < 256 → ones (bits8 x) ≡ Count.ones x
 unfolding bits8
 count-byte x h = let f : ℕ → Bool = λ (j : ℕ). odd (x / 2 ^ (7 - j)) in sym (count-bitsValue f 8) ∙ ap Count.ones (byte-bitsValue x h)
 

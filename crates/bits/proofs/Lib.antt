@@ -2,7 +2,8 @@
 pub mod Table
 pub mod Halves
 pub mod Counts
-pub mod Tally
+pub mod Records
 pub mod Part
 pub mod Packed
 pub mod Unused
+pub mod Words

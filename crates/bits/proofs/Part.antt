@@ -1,15 +1,18 @@
 -- A byte of which only the first k bits are used: its rules, computed once over all bytes and k.
-use mathlib.Core.Path.{_≡_, refl, ap}
-use Prim.Native.Nat.{ℕ, _+_, _-_, _*_, _/_, _%_, _^_, _≤_, _<_}
-use mathlib.Core.Bool.{Bool, true, false, not, cond}
+use mathlib.Core.Path.{_≡_, refl, sym, ap, _∙_}
+use Prim.Native.Nat.{ℕ, _+_, _-_, _/_, _%_, _^_, _≤_, _<_}
+use mathlib.Core.Bool.{Bool, true, false, cond}
 use mathlib.Core.List.{List, []}
 use native.Mathlib.Omega.{arith}
 use lib.ListN.{getD}
 use lib.Dec.{eqb}
+use lib.Bits.{bitAnd, bitOr}
+use lib.Count
 use Rattle.loes.specs.Bytes.{bit, odd, tabulate, bitsValue}
 use Rattle.loes.specs.Edges.{ones}
-use Rattle.bits.specs.Tables.{bits8, noneEmpty, tallyOf}
+use Rattle.bits.specs.Tables.{bits8, noneEmpty}
 use Rattle.bits.proofs.Table.{pointwise}
+use Rattle.bits.proofs.Counts.{count-byte}
 
 -- the first k bits of byte x
 unfoldable pub frontBits : ℕ → ℕ → List Bool
@@ -38,17 +41,28 @@ at-clear f g e x k h q z =
     let y : eqb (x % 2 ^ (8 - k)) 0 ≡ true = ap (λ n. eqb n 0) z in
     rw y at (at-pair (ifClear f) (ifClear g) e x k h q)
 
--- with them set it is a byte,
-front-high : (x k : ℕ) → x < 256 → k ≤ 8 → x % 2 ^ (8 - k) ≡ 0 → (x + (2 ^ (8 - k) - 1)) / 256 ≡ 0
-unfolding all tabulate
-front-high = at-clear (λ x k. (x + (2 ^ (8 - k) - 1)) / 256) (λ x k. 0) refl
+-- its set bits are those of the first k,
+front-count : (x k : ℕ) → x < 256 → k ≤ 8 → x % 2 ^ (8 - k) ≡ 0 → ones (bits8 x) ≡ ones (frontBits x k)
+unfolding all frontBits tabulate odd ones bits8
+front-count = at-clear (λ x k. ones (bits8 x)) (λ x k. ones (frontBits x k)) refl
 
-pub front-small : (x k : ℕ) → x < 256 → k ≤ 8 → x % 2 ^ (8 - k) ≡ 0 → x + (2 ^ (8 - k) - 1) < 256
-front-small x k h q z = omega (arith, front-high x k h q z)
+pub front-ones : (x k : ℕ) → x < 256 → k ≤ 8 → x % 2 ^ (8 - k) ≡ 0 → Count.ones x ≡ ones (frontBits x k)
+front-ones x k h q z = sym (count-byte x h) ∙ front-count x k h q z
 
--- whose tally tells the first k
-pub front-tally : (x k : ℕ) → x < 256 → k ≤ 8 → x % 2 ^ (8 - k) ≡ 0
-    → tallyOf (x + (2 ^ (8 - k) - 1)) ≡ ones (frontBits x k) + (8 - k) + 1024 * bit (not (noneEmpty (frontBits x k)))
-unfolding all frontBits tabulate odd ones bits8 noneEmpty tallyOf
-front-tally =
-    at-clear (λ x k. tallyOf (x + (2 ^ (8 - k) - 1))) (λ x k. ones (frontBits x k) + (8 - k) + 1024 * bit (not (noneEmpty (frontBits x k)))) refl
+-- and with the others set it keeps the mask of a byte exactly if none of its first records is empty
+abbrev filled : ℕ → ℕ → ℕ
+filled x k = x + (2 ^ (8 - k) - 1)
+
+front-mask : (x k : ℕ) → x < 256 → k ≤ 8 → x % 2 ^ (8 - k) ≡ 0
+    → bit (eqb (bitAnd 85 (bitOr (filled x k) (filled x k / 2))) 85) ≡ bit (noneEmpty (frontBits x k))
+unfolding all frontBits tabulate odd noneEmpty
+front-mask = at-clear (λ x k. bit (eqb (bitAnd 85 (bitOr (filled x k) (filled x k / 2))) 85)) (λ x k. bit (noneEmpty (frontBits x k))) refl
+
+bit-eq : (a b : Bool) → bit a ≡ bit b → a ≡ b
+bit-eq true true e = refl
+bit-eq false false e = refl
+bit-eq true false e = absurd (omega arith)
+bit-eq false true e = absurd (omega arith)
+
+pub front-full : (x k : ℕ) → x < 256 → k ≤ 8 → x % 2 ^ (8 - k) ≡ 0 → eqb (bitAnd 85 (bitOr (filled x k) (filled x k / 2))) 85 ≡ noneEmpty (frontBits x k)
+front-full x k h q z = bit-eq (eqb (bitAnd 85 (bitOr (filled x k) (filled x k / 2))) 85) (noneEmpty (frontBits x k)) (front-mask x k h q z)

@@ -1,2 +1,3 @@
--- What the tables hold.
+-- What the tables hold, and bytes as words.
 pub mod Tables
+pub mod Words

@@ -1,10 +1,10 @@
 -- The constant tables, as they are lent: set-bit places, and tallies of bytes.
 use mathlib.Core.Path.{_≡_}
-use Prim.Native.Nat.{ℕ, zero, suc, _+_, _-_, _*_, _/_, _%_, _^_, _<_}
-use mathlib.Core.Bool.{Bool, true, false, _&&_, _||_, not}
+use Prim.Native.Nat.{ℕ, zero, suc, _-_, _/_, _%_, _^_, _<_}
+use mathlib.Core.Bool.{Bool, true, false, _&&_, _||_}
 use mathlib.Core.List.{List, [], _∷_}
 use lib.ListN.{length, getD}
-use Rattle.loes.specs.Bytes.{Bytes, bit, odd, tabulate}
+use Rattle.loes.specs.Bytes.{odd, tabulate}
 use Rattle.loes.specs.Edges.{ones}
 
 -- the bits of a byte, the most significant first
@@ -28,14 +28,9 @@ noneEmpty [] = true
 noneEmpty (a ∷ []) = true
 noneEmpty (a ∷ b ∷ e) = (a || b) && noneEmpty e
 
--- the set bits of a byte, and 1,024 more if one of its records is empty
-unfoldable pub tallyOf : ℕ → ℕ
-tallyOf x = ones (bits8 x) + 1024 * bit (not (noneEmpty (bits8 x)))
-
--- the tallies of the first n bytes
-unfoldable pub tally : Bytes → ℕ → ℕ
-tally l zero = 0
-tally l (suc n) = tally l n + tallyOf (getD l n 0)
+-- the set bits of a byte
+abbrev pub tallyOf : ℕ → ℕ
+tallyOf x = ones (bits8 x)
 
 -- a lent table has n entries, entry i is f i
 pub record Table (f : ℕ → ℕ) (n : ℕ) (t : List ℕ) : Type 0 where

@@ -3,10 +3,12 @@ ghost use Prim.Native.Nat.{_+_, _-_, _*_, _/_, _^_, _<_, _≤_};
 ghost use mathlib.Core.Path.{_≡_};
 ghost use lib.ListN.{length, drop};
 ghost use Rattle.loes.specs.Limits.{maxWidth};
-ghost use Rattle.loes.specs.Bytes.{bitAt, numberAt};
+ghost use Rattle.loes.specs.Bytes.{bitAt, bitsIn, numberAt};
+ghost use Rattle.loes.specs.Edges.{ones};
 ghost use Rattle.loes.specs.Entry.{keyBytes};
 ghost use Rattle.loes.specs.Model.{unusedSet};
-ghost use Rattle.bits.specs.Tables.{Places, Tallies, tally};
+ghost use Rattle.bits.specs.Tables.{Places, Tallies};
+ghost use Rattle.bits.specs.Words.{wordIn};
 
 pub mod tables;
 
@@ -37,12 +39,10 @@ pub fn unused_set(key: &[u8], t: usize, m: usize) -> bool
     x % (1u8 << (8 * t - m)) != 0
 }
 
-// What the byte before a byte, the two before two and the four before four weigh.
+// What the byte before a byte and the two before two weigh.
 const BYTE: usize = 256;
 
 const TWO_BYTES: usize = BYTE * BYTE;
-
-const FOUR_BYTES: usize = TWO_BYTES * TWO_BYTES;
 
 // The number in two bytes at a place, most significant byte first.
 pub fn number2(l: &[u8], at: usize) -> usize
@@ -60,21 +60,62 @@ pub fn number4(l: &[u8], at: usize) -> usize
     number2(l, at) * TWO_BYTES + number2(l, at + 2)
 }
 
-// In eight.
+// In eight: in this form it is one load when compiled.
 pub fn number8(l: &[u8], at: usize) -> usize
     requires { ⌜ at + 8 ≤ length (now l) ⌝ }
     ensures { λ r. ⌜ r ≡ numberAt 8 (now (l .entry)) at ⌝ }
 {
-    number4(l, at) * FOUR_BYTES + number4(l, at + 4)
+    ((l[at] as usize) << 56)
+        | ((l[at + 1] as usize) << 48)
+        | ((l[at + 2] as usize) << 40)
+        | ((l[at + 3] as usize) << 32)
+        | ((l[at + 4] as usize) << 24)
+        | ((l[at + 5] as usize) << 16)
+        | ((l[at + 6] as usize) << 8)
+        | (l[at + 7] as usize)
 }
 
-// What a byte with an empty record adds to its tally; the set bits of 64 bytes stay below it.
-pub const EMPTY_RECORD: usize = 1024;
+// Eight bytes as one word, the first byte the lowest: this too is one load.
+pub fn word(l: &[u8], at: usize) -> u64
+    requires { ⌜ at + 8 ≤ length (now l) ⌝ }
+    ensures { λ r. ⌜ r ≡ wordIn (drop at (now (l .entry))) 8 ⌝ }
+{
+    (l[at] as u64)
+        | ((l[at + 1] as u64) << 8)
+        | ((l[at + 2] as u64) << 16)
+        | ((l[at + 3] as u64) << 24)
+        | ((l[at + 4] as u64) << 32)
+        | ((l[at + 5] as u64) << 40)
+        | ((l[at + 6] as u64) << 48)
+        | ((l[at + 7] as u64) << 56)
+}
 
-// The tallies of bytes from..upto, at most 64 of them: their set bits, and 1,024 more for each byte with an empty record.
-pub fn tally_bytes(l: &[u8], t: &[u16], from: usize, upto: usize) -> usize
+// The same of fewer bytes.
+pub fn part_word(l: &[u8], at: usize, k: usize) -> u64
+    requires { ⌜ (k < 8) × (at + k ≤ length (now l)) ⌝ }
+    ensures { λ r. ⌜ r ≡ wordIn (drop at (now (l .entry))) k ⌝ }
+{
+    let mut x: u64 = 0;
+    let mut i = 0;
+    while i < k {
+        x = x | ((l[at + i] as u64) << (8 * i));
+        i += 1;
+    }
+    x
+}
+
+// The set bits of eight bytes.
+pub fn word_ones(l: &[u8], at: usize) -> usize
+    requires { ⌜ at + 8 ≤ length (now l) ⌝ }
+    ensures { λ r. ⌜ r ≡ ones (bitsIn (drop at (now (l .entry))) 64) ⌝ }
+{
+    u64::count_ones(word(l, at)) as usize
+}
+
+// The set bits of bytes from..upto, at most 64 of them, by the table.
+pub fn tally_bytes(l: &[u8], t: &[u8], from: usize, upto: usize) -> usize
     requires { ⌜ (from ≤ upto) × (upto ≤ length (now l)) × (upto ≤ from + 64) × Tallies (now t) ⌝ }
-    ensures { λ r. ⌜ r ≡ tally (drop from (now (l .entry))) (upto - from) ⌝ }
+    ensures { λ r. ⌜ (r ≡ ones (bitsIn (drop from (now (l .entry))) (8 * (upto - from)))) × (r ≤ 512) ⌝ }
 {
     let mut sum: usize = 0;
     let mut i = from;
@@ -87,7 +128,7 @@ pub fn tally_bytes(l: &[u8], t: &[u16], from: usize, upto: usize) -> usize
 }
 
 // The table of tallies, to be bound once and lent.
-pub fn tallies() -> [u16; 256]
+pub fn tallies() -> [u8; 256]
     ensures { λ r. ⌜ Tallies r ⌝ }
 {
     tables::TALLIES

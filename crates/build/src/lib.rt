@@ -3,7 +3,7 @@ ghost use Prim.Native.Nat.{ℕ, _+_, _-_, _*_, _/_, _%_, _^_, _<_, _≤_};
 ghost use mathlib.Core.Path.{_≡_};
 ghost use mathlib.Core.List.{[], _∷_, _++_};
 ghost use lib.ListN.{length, getD};
-ghost use Rattle.loes.specs.Limits.{maxWidth, maxEdges, blockBits, subBlockBits, subBlocks};
+ghost use Rattle.loes.specs.Limits.{maxWidth, maxEdges, blockBits, subBlockBits};
 ghost use Rattle.loes.specs.Bytes.{bigEndian, bigEndians, started, bitsIn, front};
 ghost use Rattle.loes.specs.Edges.{ones};
 ghost use Rattle.loes.specs.Encode.{field, blockOnes, subBlockOnes};
@@ -82,16 +82,31 @@ pub struct Seen {
     pub ones: usize,
 }
 
-// Counts on, to the first `upto` bytes.
-fn count_to(edges: &[u8], t: &[u16], s: Seen, upto: usize) -> Seen
-    requires { ⌜ Counts (now edges) s × Tallies (now t) × (s .bytes ≤ upto) × (upto ≤ length (now edges)) × (length (now edges) ≤ maxEdges / 8) ⌝ }
-    ensures { λ r. ⌜ Counts (now (edges .entry)) r × (r .bytes ≡ upto) ⌝ }
+// Counts on by whole words, to less than 8 bytes before `upto`.
+fn count_words(edges: &[u8], s: Seen, upto: usize) -> Seen
+    requires { ⌜ Counts (now edges) s × (s .bytes ≤ upto) × (upto ≤ length (now edges)) × (length (now edges) ≤ maxEdges / 8) ⌝ }
+    ensures { λ r. ⌜ Counts (now (edges .entry)) r × (r .bytes ≤ upto) ⌝ }
 {
     let mut n = s.ones;
     let mut i = s.bytes;
+    while 8 <= upto - i {
+        n += bits::word_ones(edges, i);
+        i += 8;
+    }
+    Seen { bytes: i, ones: n }
+}
+
+// Counts on, to the first `upto` bytes.
+fn count_to(edges: &[u8], t: &[u8], s: Seen, upto: usize) -> Seen
+    requires { ⌜ Counts (now edges) s × Tallies (now t) × (s .bytes ≤ upto) × (upto ≤ length (now edges)) × (length (now edges) ≤ maxEdges / 8) ⌝ }
+    ensures { λ r. ⌜ Counts (now (edges .entry)) r × (r .bytes ≡ upto) ⌝ }
+{
+    let words = count_words(edges, s, upto);
+    let mut n = words.ones;
+    let mut i = words.bytes;
     while i < upto {
         let x = edges[i] as usize;
-        n += t[x] as usize % bits::EMPTY_RECORD;
+        n += t[x] as usize;
         i += 1;
     }
     Seen {
@@ -101,7 +116,7 @@ fn count_to(edges: &[u8], t: &[u16], s: Seen, upto: usize) -> Seen
 }
 
 // The set bits before an offset in the byte behind those seen.
-fn ones_at(edges: &[u8], t: &[u16], s: Seen, o: usize) -> usize
+fn ones_at(edges: &[u8], t: &[u8], s: Seen, o: usize) -> usize
     requires { ⌜ Counts (now edges) s × Tallies (now t) × (s .bytes ≡ o / 8) × (o ≤ 8 * length (now edges)) × (length (now edges) ≤ maxEdges / 8) ⌝ }
     ensures { λ r. ⌜ r ≡ ones (bitsIn (now (edges .entry)) o) ⌝ }
 {
@@ -110,11 +125,11 @@ fn ones_at(edges: &[u8], t: &[u16], s: Seen, o: usize) -> usize
         return s.ones;
     }
     let x = edges[o / 8] as usize;
-    s.ones + t[x >> (8 - k)] as usize % bits::EMPTY_RECORD
+    s.ones + t[x >> (8 - k)] as usize
 }
 
 // Where each level ends; returns the number of members.
-fn level_ends(edges: &[u8], t: &[u16], m: usize, b: usize, ends: &mut [usize]) -> usize
+fn level_ends(edges: &[u8], t: &[u8], m: usize, b: usize, ends: &mut [usize]) -> usize
     requires { ⌜ Holds m b (now edges) × Tallies (now t) × (length (now edges) ≤ maxEdges / 8) × (m ≤ length (now ends)) ⌝ }
     ensures { λ r. ⌜ Shaped m b (now (edges .entry)) (now (ends .exit)) r ⌝ }
 {
@@ -164,15 +179,8 @@ fn put_blocks(out: &mut [u8], blocks: usize, bases: &[usize])
     }
 }
 
-// The set bits before a sub-block's block: those before the sub-block if it is its first, else the same as before.
-fn block_base(j: usize, base: usize, ones: usize) -> usize
-    ensures { λ r. ⌜ (j % subBlocks ≡ 0 → r ≡ ones) × ((j % subBlocks ≡ 0 → ⊥) → r ≡ base) ⌝ }
-{
-    if j % SUB_BLOCKS == 0 { ones } else { base }
-}
-
 // Field 6: for each started sub-block, the set bits of its block before it. The set bits before each block are met on the way.
-fn put_sub_blocks(out: &mut [u8], edges: &[u8], t: &[u16], b: usize, bases: &mut [usize])
+fn put_sub_blocks(out: &mut [u8], edges: &[u8], t: &[u8], b: usize, bases: &mut [usize])
     requires { ⌜ (3 + subBlockBytes b ≤ length (now out)) × (b ≤ 8 * length (now edges)) × (length (now edges) ≤ maxEdges / 8) × Tallies (now t) × (length (now bases) ≡ maxBlocks) ⌝ }
     ensures { λ _. ⌜ now (out .exit) ≡ front (field 6 (bigEndians 2 (subBlockOnes (bitsIn (now (edges .entry)) b)) (started subBlockBits b))) (now (out .entry)) ⌝ }
     ensures { λ _. ⌜ Based (bitsIn (now (edges .entry)) b) (started blockBits b) (now (bases .exit)) ⌝ }
@@ -185,7 +193,7 @@ fn put_sub_blocks(out: &mut [u8], edges: &[u8], t: &[u16], b: usize, bases: &mut
     while j < subs {
         seen = count_to(edges, t, seen, SUB_BLOCK_BYTES * j);
         let n = seen.ones;
-        base = block_base(j, base, n);
+        base = encoding::block_base(j, base, n);
         bases[j / SUB_BLOCKS] = base;
         let at = 3 + 2 * j;
         put2(&mut out[at..], n - base);
@@ -229,7 +237,7 @@ fn no_bases() -> [usize; MAX_BLOCKS]
 }
 
 // Fields 4 to 6: field 5 last, when what it says is known.
-fn put_edges(out: &mut [u8], edges: &[u8], t: &[u16], b: usize)
+fn put_edges(out: &mut [u8], edges: &[u8], t: &[u8], b: usize)
     requires { ⌜ (9 + length (now edges) + blockBytes b + subBlockBytes b ≤ length (now out)) × (b ≤ 8 * length (now edges)) × (length (now edges) ≤ maxEdges / 8) × Tallies (now t) ⌝ }
     ensures { λ _. ⌜ now (out .exit) ≡ front ((field 4 (now (edges .entry)) ++ field 5 (bigEndians 8 (blockOnes (bitsIn (now (edges .entry)) b)) (started blockBits b))) ++ field 6 (bigEndians 2 (subBlockOnes (bitsIn (now (edges .entry)) b)) (started subBlockBits b))) (now (out .entry)) ⌝ }
 {
@@ -269,7 +277,7 @@ fn no_ends() -> [usize; Encoding::MAX_WIDTH]
 }
 
 // The encoding of the entry that edge bytes hold, at the front of the buffer, if it fits: nothing is written before that is known.
-pub fn write(m: usize, b: usize, edges: &[u8], t: &[u16], out: &mut [u8]) -> Written
+pub fn write(m: usize, b: usize, edges: &[u8], t: &[u8], out: &mut [u8]) -> Written
     requires { ⌜ Sealed m b (now edges) × Tallies (now t) ⌝ }
     ensures { λ r. ⌜ writtenOutcome r (now (out .exit)) ≡ writes [] (held m b (now (edges .entry)) ∷ []) (now (out .entry) ∷ []) .outcome ⌝ }
 {

@@ -376,14 +376,7 @@ fn step_coded(w: Walked) -> Step
 }
 
 // A step with the cursor in its parts: 15 for what is no state, then as the cursor's step says.
-fn step_in(
-    l: &[u8],
-    t: &[u16],
-    e: Encoding,
-    s: usize,
-    offsets: &mut [usize],
-    out: &mut [u8],
-) -> Step
+fn step_in(l: &[u8], t: &[u8], e: Encoding, s: usize, offsets: &mut [usize], out: &mut [u8]) -> Step
     requires { ⌜ Opens (now l) e × Tallies (now t) ⌝ }
     ensures { λ r. ⌜ walks r (now (offsets .exit)) (now (out .exit)) ≡ stepAfter (opened (entryIn (now (l .entry)))) s (now (offsets .entry)) (now (out .entry)) ⌝ }
 {

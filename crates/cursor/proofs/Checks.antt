@@ -1,24 +1,31 @@
 -- The check of a path level by level, its turn, and the path moved on.
-use mathlib.Core.Path.{_≡_, refl, sym, ap, _∙_}
-use Prim.Native.Nat.{ℕ, suc, _+_, _-_, _*_, _/_, _%_, _≤_, _<_}
-use mathlib.Core.Bool.{Bool, true, false, not, false≢true, and-false}
+use mathlib.Core.Path.{_≡_, refl, sym, ap, ap₂, _∙_}
+use Prim.Native.Nat.{ℕ, suc, _+_, _-_, _*_, _/_, _%_, _^_, _≤_, _<_}
+use mathlib.Core.Bool.{Bool, true, false, _&&_, not, false≢true, and-false}
 use mathlib.Core.List.{List}
 use native.Mathlib.Omega.{arith}
 use native.Mathlib.Decide.{decLe}
 use lib.ListN.{length, take, drop, getD, set, length-set, List·getD-eq-default}
-use lib.Seq.{getD-set-same, getD-set-other}
+use lib.Seq.{getD-drop, getD-set-same, getD-set-other}
+use native.Mathlib.Nat.{pow-suc, div-div-eq-div-mul}
 use lib.Dec.{eqb}
 use borrow.Author.Tests.{eq-eqb, ne-eqb}
-use Rattle.loes.specs.Bytes.{odd, sameNumbers}
+use Rattle.loes.specs.Bytes.{Bytes, bit, odd, bitAt, sameNumbers}
 use Rattle.loes.specs.Keys.{Key, any}
-use Rattle.loes.specs.Edges.{onesBefore}
-use Rattle.loes.specs.Entry.{Entry, keysOf, edgesOf, Valid}
+use Rattle.loes.specs.Edges.{edges, onesBefore}
+use Rattle.loes.specs.Read.{entryIn}
+use Rattle.loes.specs.Entry.{Entry, keysOf, edgesOf, edgeCount, Valid}
 use Rattle.loes.specs.Cursor.{at, allZero, offsetsRight, pathOf}
-use Rattle.loes.proofs.Bits.{odd-bit}
+use Rattle.loes.proofs.Bits.{bit-odd}
+use Rattle.loes.proofs.Tree.{bit-le}
+use Rattle.loes.proofs.Navigation.{length-edgesBefore}
+use Rattle.encoding.specs.declared.Encoding.{Encoding}
+use Rattle.encoding.specs.Opened.{Opens}
+use Rattle.encoding.proofs.Opened.{opens-edge}
 use Rattle.loes.proofs.Tests.{lt-no, yes-eq, both}
 use Rattle.query.proofs.BitLists.{up, set-below, rank-is}
 use Rattle.query.proofs.Paths.{recordAt, Leading, leading-less}
-use Rattle.cursor.specs.Moves.{leadsOn, turns, firstEdge, behind, movedOn, Moved, Movable, hasPath}
+use Rattle.cursor.specs.Moves.{leadsOn, recordCode, turns, firstEdge, behind, movedOn, Moved, Movable, hasPath}
 use Rattle.cursor.proofs.Right.{lead-right, right-leads}
 use Rattle.cursor.proofs.Moves.{moved-above}
 
@@ -43,29 +50,61 @@ leads-yes : (e : List Bool) (r o : ℕ) → leadsOn e r o ≡ true → (o / 2 �
 unfolding leadsOn
 leads-yes e r o h = let z = both (eqb (o / 2) r) (getD e o false) h in (yes-eq (o / 2) r (z .0), z .1)
 
+-- ---- record_at: a record's two bits in its byte
+code-is : (y : Bytes) (r : ℕ) → getD y (r / 4) 0 / 2 ^ (6 - 2 * (r % 4)) % 4 ≡ 2 * bit (bitAt y (2 * r)) + bit (bitAt y (2 * r + 1))
+unfolding bitAt
+code-is y r =
+    let x : ℕ = getD y (r / 4) 0 in
+    let k : ℕ = 6 - 2 * (r % 4) in
+    let a : 2 * r / 8 ≡ r / 4 = omega arith in
+    let b : (2 * r + 1) / 8 ≡ r / 4 = omega arith in
+    let c : 7 - 2 * r % 8 ≡ suc k = omega arith in
+    let d : 7 - (2 * r + 1) % 8 ≡ k = omega arith in
+    let h : x / 2 ^ suc k ≡ x / 2 ^ k / 2 = ap (λ n. x / n) (pow-suc 2 k) ∙ sym (div-div-eq-div-mul x (2 ^ k) 2) in
+    rw (a, b, c, d, bit-odd (x / 2 ^ suc k), bit-odd (x / 2 ^ k), h) (omega arith)
+
+-- both are edges, if the first is
+record-whole : (e : Entry) (r : ℕ) → 2 * r < edgeCount e → 2 * r + 1 < edgeCount e
+unfolding edgeCount edgesOf edges
+record-whole e r h = omega (arith, length-edgesBefore (e .width) (e .width) (e .set) (omega arith))
+
+pub code-at : (l : Bytes) (e : Encoding) (r : ℕ) → Opens l e → 2 * r < e .bits → getD l (e .edges + r / 4) 0 / 2 ^ (6 - 2 * (r % 4)) % 4 ≡ recordCode (edgesOf (entryIn l)) r
+unfolding recordCode
+code-at l e r o h =
+    let y : Bytes = drop (e .edges) l in
+    let g : 2 * r + 1 < e .bits = omega (arith, o .bits, record-whole (entryIn l) r (omega (arith, h, o .bits))) in
+    ap (λ x. x / 2 ^ (6 - 2 * (r % 4)) % 4) (sym (getD-drop (e .edges) l (r / 4) 0)) ∙ code-is y r
+    ∙ ap₂ (λ p q. 2 * bit p + bit q) (opens-edge l e o (2 * r) h) (opens-edge l e o (2 * r + 1) g)
+
 -- ---- turns_on
-pub turn-odd : (e : List Bool) (o : ℕ) → o % 2 ≡ 1 → false ≡ turns e o
-unfolding turns
-turn-odd e o h = rw (odd-bit true o h)
+pub turn-code : (e : List Bool) (o : ℕ) → getD e o false ≡ true → eqb (recordCode e (o / 2) + 4 * (o % 2)) 3 ≡ turns e o
+unfolding recordCode turns
+turn-code e o h = go (odd o) refl
+  where
+    even : 2 * (o / 2) ≡ o → (c : Bool) → getD e (o + 1) false ≡ c → eqb (2 * bit (getD e (2 * (o / 2)) false) + bit (getD e (2 * (o / 2) + 1) false) + 4 * 0) 3 ≡ c
+    even z true g = rw (z, h, g)
+    even z false g = rw (z, h, g)
 
-pub turn-past : (e : List Bool) (o : ℕ) → length e ≤ o + 1 → false ≡ turns e o
-unfolding turns
-turn-past e o h = rw (List·getD-eq-default e false {n = o + 1} h) (sym (and-false (not (odd o))))
-
-pub turn-bit : (e : List Bool) (o : ℕ) (x : Bool) → (o % 2 ≡ 1 → ⊥) → x ≡ getD e (o + 1) false → x ≡ turns e o
-unfolding turns
-turn-bit e o x h q =
-    let z : o % 2 ≡ 0 = elim (decLe (o % 2) 0) [ yes y ↦ omega arith | no y ↦ absurd (h (omega arith)) ] in
-    rw (odd-bit false o z) q
+    go : (b : Bool) → odd o ≡ b → eqb (2 * bit (getD e (2 * (o / 2)) false) + bit (getD e (2 * (o / 2) + 1) false) + 4 * (o % 2)) 3 ≡ (not b && getD e (o + 1) false)
+    go true q =
+        let y : o % 2 ≡ 1 = sym (bit-odd o) ∙ ap bit q in
+        ne-eqb (2 * bit (getD e (2 * (o / 2)) false) + bit (getD e (2 * (o / 2) + 1) false) + 4 * (o % 2)) 3 (λ z. omega (arith, y, z))
+    go false q =
+        let y : o % 2 ≡ 0 = sym (bit-odd o) ∙ ap bit q in
+        rw y (even (omega (arith, y)) (getD e (o + 1) false) refl)
 
 -- ---- first_edge
-pub first-yes : (e : List Bool) (r : ℕ) → getD e (2 * r) false ≡ true → 2 * r ≡ firstEdge e r
-unfolding firstEdge
-first-yes e r q = rw q (omega arith)
+pub first-code : (e : List Bool) (r : ℕ) → 2 * r + (1 - recordCode e r / 2) ≡ firstEdge e r
+unfolding recordCode firstEdge
+first-code e r = go (getD e (2 * r) false)
+  where
+    go : (c : Bool) → 2 * r + (1 - (2 * bit c + bit (getD e (2 * r + 1) false)) / 2) ≡ 2 * r + bit (not c)
+    go true = omega (arith, bit-le (getD e (2 * r + 1) false))
+    go false = omega (arith, bit-le (getD e (2 * r + 1) false))
 
-pub first-no : (e : List Bool) (r : ℕ) → getD e (2 * r) false ≡ false → 2 * r + 1 ≡ firstEdge e r
-unfolding firstEdge
-first-no e r q = rw q
+pub code-le : (e : List Bool) (r : ℕ) → recordCode e r ≤ 3
+unfolding recordCode
+code-le e r = omega (arith, bit-le (getD e (2 * r) false), bit-le (getD e (2 * r + 1) false))
 
 -- ---- is_path: the first d offsets lead, to record r
 pub record Checked (e : List Bool) (os : List ℕ) (r d : ℕ) : Type 0 where

@@ -41,6 +41,10 @@ module _ (e : Entry) (v : Valid e) (os : List ℕ) (long : e .width ≤ length o
   unfolding indexIn pathKey keysOf
   index-is = before-smaller (keyOf (λ (i : ℕ). getD os i 0) (e .width)) (e .width) (e .set) (key-length (λ (i : ℕ). getD os i 0) (e .width))
 
+  pub set-edges : (j : ℕ) → j < e .width → getD (edgesOf e) (getD os j 0) false ≡ true
+  unfolding edgesOf
+  set-edges j x = lead (suc j) x .1 .1
+
   pub below-edges : (j : ℕ) → j < e .width → getD os j 0 < edgeCount e
   unfolding edgeCount edgesOf
   below-edges j x = set-below (edges (e .width) (e .set)) (getD os j 0) (lead (suc j) x .1 .1)

@@ -1,6 +1,6 @@
 -- The first member's path.
 use mathlib.Core.Path.{_≡_, refl, sym, ap, _∙_}
-use Prim.Native.Nat.{ℕ, zero, suc, _+_, _*_, _≤_, _<_}
+use Prim.Native.Nat.{ℕ, zero, suc, _+_, _*_, _/_, _≤_, _<_}
 use mathlib.Core.Bool.{Bool, true, false}
 use mathlib.Core.List.{List, []}
 use native.Mathlib.Omega.{arith}
@@ -9,13 +9,15 @@ use lib.ListN.{length, getD, set, length-set}
 use lib.Seq.{getD-set-same, getD-set-other}
 use Rattle.loes.specs.Bytes.{tabulate, front}
 use Rattle.loes.specs.Keys.{members}
-use Rattle.loes.specs.Edges.{onesBefore, rank, edges}
+use Rattle.loes.specs.Edges.{rank, edges}
+use Rattle.loes.specs.Encode.{levelEnd}
+use Rattle.loes.proofs.Navigation.{recordsBefore, recordIndex, length-edgesBefore}
 use Rattle.loes.specs.Entry.{Entry, keysOf, count, edgesOf, edgeCount, Valid}
 use Rattle.loes.specs.Cursor.{pathOf}
 use Rattle.loes.proofs.Bytes.{length-tabulate, getD-tabulate}
 use Rattle.loes.proofs.Tree.{prefixesBefore, prefix-whole, members-at, index-lt}
 use Rattle.query.specs.Paths.{keyOf}
-use Rattle.query.proofs.BitLists.{up, set-below, rank-is}
+use Rattle.query.proofs.BitLists.{set-below}
 use Rattle.query.proofs.Levels.{some-key}
 use Rattle.query.proofs.Paths.{recordAt, Leading, key-length, offsets-are}
 use Rattle.query.proofs.Ascent.{front-by}
@@ -75,6 +77,16 @@ module _ (e : Entry) (v : Valid e) (pos : 0 < edgeCount e) where
   unfolding pathOf edgesOf
   path-first = ap (pathOf e) first-key ∙ offsets-are (edges (e .width) (e .set)) (firstAt (edges (e .width) (e .set))) (e .width) (leads (e .width) (omega arith) .0) .0
 
+  -- the path comes to the first record of each level
+  level-first : (d : ℕ) → d < e .width → levelEnd e d / 2 ≡ firstRecord (edgesOf e) (suc d)
+  unfolding levelEnd recordIndex edgesOf
+  level-first d l =
+      let m : ℕ = e .width in
+      let f : ℕ → ℕ = firstAt (edges m (e .set)) in
+      let p = path-prefix m (e .set) (some-key e v [] pos) f (suc d) l (leads (suc d) l .0) .1 in
+      let n : recordsBefore (length (keyOf f (suc d))) m (e .set) ≡ recordsBefore (suc d) m (e .set) = ap (λ x. recordsBefore x m (e .set)) (key-length f (suc d)) in
+      omega (arith, p, n, leads (suc d) l .1, length-edgesBefore (suc d) m (e .set) l, record-first (edges m (e .set)) (suc d))
+
   module _ (os₀ : List ℕ) (long : e .width ≤ length os₀) where
     pub first-start : FirstTo e os₀ os₀ 0 0
     first-start = record { most = omega arith; on = unfold firstRecord in refl; size = refl; done = λ j x. absurd (omega arith); rest = λ j x. refl }
@@ -88,14 +100,13 @@ module _ (e : Entry) (v : Valid e) (pos : 0 < edgeCount e) where
       unfolding firstEdge edgeCount
       first-room = let z = set-below (edgesOf e) (firstEdge (edgesOf e) r) is-set in (omega (arith, z), z)
 
-      pub first-next : (x r' : ℕ) → x ≡ firstEdge (edgesOf e) r → r' ≡ onesBefore (edgesOf e) x + 1 → FirstTo e os₀ (set os d x) r' (d + 1)
-      unfolding firstRecord firstAt
+      pub first-next : (x r' : ℕ) → x ≡ firstEdge (edgesOf e) r → r' ≡ levelEnd e d / 2 → FirstTo e os₀ (set os d x) r' (d + 1)
+      unfolding firstAt
       first-next x r' q z =
           let s : d + 1 ≡ suc d = omega arith in
-          let u : r' ≡ rank (edgesOf e) x = z ∙ sym (up (onesBefore (edgesOf e) x)) ∙ sym (rank-is (edgesOf e) x (rw q is-set)) in
           record {
             most = omega arith;
-            on = rw s (u ∙ ap (rank (edgesOf e)) (q ∙ ap (firstEdge (edgesOf e)) (w .on)));
+            on = rw s (z ∙ level-first d dm);
             size = length-set os d x ∙ w .size;
             done = λ j y. elim (decLe d j) [
               | yes g ↦

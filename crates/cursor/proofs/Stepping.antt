@@ -26,7 +26,7 @@ use Rattle.cursor.specs.declared.State.{State}
 use Rattle.cursor.specs.Steps.{stateOf, at as place}
 use Rattle.cursor.specs.Moves.{TurnsAt, Moved, Movable, hasPath}
 use Rattle.cursor.proofs.Right.{take-tabulate}
-use Rattle.cursor.proofs.Onward.{indexIn, below-edges, next-none, next-some, movable, next-path}
+use Rattle.cursor.proofs.Onward.{indexIn, set-edges, next-none, next-some, movable, next-path}
 use Rattle.cursor.proofs.Outset.{first-some}
 
 pub positive : (n : ℕ) → (n ≡ 0 → ⊥) → 0 < n
@@ -101,8 +101,8 @@ module _ (e : Entry) (v : Valid e) (os : List ℕ) (r : isCursorOf e (record { s
   next-is = ap (λ k. suc (smaller k (keysOf e))) (key-map os (e .width) at-long)
 
   module _ (m b : ℕ) (em : m ≡ e .width) (eb : b ≡ edgeCount e) where
-    pub at-below : (m ≤ length os) × ((j : ℕ) → j < m → getD os j 0 < b)
-    at-below = (omega (arith, at-long), λ j x. let z = below-edges e v os at-long at-path j (omega (arith, em)) in omega (arith, z))
+    pub at-set : (m ≤ length os) × ((j : ℕ) → j < m → getD (edgesOf e) (getD os j 0) false ≡ true)
+    at-set = (omega (arith, at-long), λ j x. set-edges e v os at-long at-path j (omega (arith, em)))
 
     module _ (t : ℕ) (q : TurnsAt (edgesOf e) m os t) where
       turned : TurnsAt (edgesOf e) (e .width) os t

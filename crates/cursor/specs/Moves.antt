@@ -14,6 +14,10 @@ use Rattle.loes.specs.Cursor.{pathOf}
 unfoldable pub leadsOn : List Bool → ℕ → ℕ → Bool
 leadsOn e r o = eqb (o / 2) r && getD e o false
 
+-- the two edges of record r as a number
+unfoldable pub recordCode : List Bool → ℕ → ℕ
+recordCode e r = 2 * bit (getD e (2 * r) false) + bit (getD e (2 * r + 1) false)
+
 -- the next set bit is in the same record
 unfoldable pub turns : List Bool → ℕ → Bool
 turns e o = not (odd o) && getD e (o + 1) false

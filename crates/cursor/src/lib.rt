@@ -11,7 +11,7 @@ ghost use Rattle.loes.specs.Read.{entryIn};
 ghost use Rattle.loes.specs.Cursor as spec;
 ghost use Rattle.bits.specs.Tables.{Tallies};
 ghost use Rattle.encoding.specs.Opened.{Opens};
-ghost use Rattle.cursor.specs.Moves.{leadsOn, turns, firstEdge, behind, TurnsAt, Moved, Movable, hasPath};
+ghost use Rattle.cursor.specs.Moves.{leadsOn, recordCode, turns, firstEdge, behind, TurnsAt, Moved, Movable, hasPath};
 ghost use Rattle.cursor.specs.Steps.{stateOf, numbers, at, cursorOf, walkedOf, advancedOf, steppedOf};
 use bits::EdgeOffset;
 use bits::RecordIndex;
@@ -104,7 +104,7 @@ fn leads_on(l: &[u8], e: Encoding, r: RecordIndex, o: EdgeOffset) -> bool
 }
 
 // Whether offsets begin with a member's path: level by level, each leads on.
-fn is_path(l: &[u8], t: &[u16], e: Encoding, path: &[usize]) -> bool
+fn is_path(l: &[u8], t: &[u8], e: Encoding, path: &[usize]) -> bool
     requires { ⌜ Opens (now l) e × Tallies (now t) × (e .width ≤ length (now path)) ⌝ }
     ensures { λ r. ⌜ r ≡ hasPath (entryIn (now (l .entry))) (now (path .entry)) ⌝ }
 {
@@ -139,7 +139,7 @@ fn zeros_from(path: &[usize], from: usize) -> bool
 }
 
 // Whether offsets are a member's path with zeros behind it.
-fn at_member(l: &[u8], t: &[u16], e: Encoding, path: &[usize]) -> bool
+fn at_member(l: &[u8], t: &[u8], e: Encoding, path: &[usize]) -> bool
     requires { ⌜ Opens (now l) e × Tallies (now t) × (e .width ≤ length (now path)) ⌝ }
     ensures { λ r. ⌜ r ≡ spec.offsetsRight (entryIn (now (l .entry))) (at spec.at (now (path .entry))) ⌝ }
 {
@@ -150,7 +150,7 @@ fn at_member(l: &[u8], t: &[u16], e: Encoding, path: &[usize]) -> bool
 }
 
 // Whether a state and offsets are a cursor of this encoding: 256 of them, a member's path or zeros alone.
-fn is_cursor(l: &[u8], t: &[u16], e: Encoding, s: State, path: &[usize]) -> bool
+fn is_cursor(l: &[u8], t: &[u8], e: Encoding, s: State, path: &[usize]) -> bool
     requires { ⌜ Opens (now l) e × Tallies (now t) ⌝ }
     ensures { λ r. ⌜ r ≡ spec.isCursorOf (entryIn (now (l .entry))) (at (stateOf s) (now (path .entry))) ⌝ }
 {
@@ -165,23 +165,28 @@ fn is_cursor(l: &[u8], t: &[u16], e: Encoding, s: State, path: &[usize]) -> bool
 }
 
 // ---- The next path
-// Whether the next set bit is in the same record.
+// The two edges of a record as a number: 2 for the first, 1 for the second.
+fn record_at(l: &[u8], e: Encoding, r: RecordIndex) -> usize
+    requires { ⌜ Opens (now l) e × (2 * r .0 < e .bits) ⌝ }
+    ensures { λ x. ⌜ x ≡ recordCode (edgesOf (entryIn (now (l .entry)))) (r .0) ⌝ }
+{
+    let at = e.edges + r.0 / 4;
+    let x = l[at];
+    ((x >> (6 - 2 * (r.0 % 4))) % 4) as usize
+}
+
+// Whether the next set bit is in the same record, from a set bit: the record has both edges, and this is the first. No branch goes by the edges.
 fn turns_on(l: &[u8], e: Encoding, o: EdgeOffset) -> bool
-    requires { ⌜ Opens (now l) e × (o .0 < e .bits) ⌝ }
+    requires { ⌜ Opens (now l) e × (getD (edgesOf (entryIn (now l))) (o .0) false ≡ true) ⌝ }
     ensures { λ x. ⌜ x ≡ turns (edgesOf (entryIn (now (l .entry)))) (o .0) ⌝ }
 {
-    if o.0 % 2 == 1 {
-        return false;
-    }
-    if e.bits <= o.0 + 1 {
-        return false;
-    }
-    encoding::edge_at(l, e, EdgeOffset(o.0 + 1))
+    let z = record_at(l, e, RecordIndex(o.0 / 2));
+    z + 4 * (o.0 % 2) == 3
 }
 
 // 1 more than the greatest level on which a path turns; 0 if it turns on none.
 fn turn_level(l: &[u8], e: Encoding, path: &[usize]) -> usize
-    requires { ⌜ Opens (now l) e × (e .width ≤ length (now path)) × ((j : ℕ) → j < e .width → getD (now path) j 0 < e .bits) ⌝ }
+    requires { ⌜ Opens (now l) e × (e .width ≤ length (now path)) × ((j : ℕ) → j < e .width → getD (edgesOf (entryIn (now l))) (getD (now path) j 0) false ≡ true) ⌝ }
     ensures { λ r. ⌜ TurnsAt (edgesOf (entryIn (now (l .entry)))) (e .width) (now (path .entry)) r ⌝ }
 {
     let mut d = e.width;
@@ -201,11 +206,8 @@ fn first_edge(l: &[u8], e: Encoding, r: RecordIndex) -> EdgeOffset
     requires { ⌜ Opens (now l) e × (2 * r .0 < e .bits) ⌝ }
     ensures { λ x. ⌜ x .0 ≡ firstEdge (edgesOf (entryIn (now (l .entry)))) (r .0) ⌝ }
 {
-    let o = 2 * r.0;
-    if encoding::edge_at(l, e, EdgeOffset(o)) {
-        return EdgeOffset(o);
-    }
-    EdgeOffset(o + 1)
+    let z = record_at(l, e, r);
+    EdgeOffset(2 * r.0 + (1 - z / 2))
 }
 
 // The offset behind q on level d of a path that turns on level t: there the next one, on greater levels the first of the next record.
@@ -235,9 +237,9 @@ fn move_on(l: &[u8], e: Encoding, t: usize, path: &mut [usize])
     }
 }
 
-// The path of the first member.
-fn first_path(l: &[u8], t: &[u16], e: Encoding, path: &mut [usize])
-    requires { ⌜ Opens (now l) e × Tallies (now t) × (0 < e .bits) × (e .width ≤ length (now path)) ⌝ }
+// The path of the first member: on each level it comes to the first record.
+fn first_path(l: &[u8], e: Encoding, path: &mut [usize])
+    requires { ⌜ Opens (now l) e × (0 < e .bits) × (e .width ≤ length (now path)) ⌝ }
     ensures { λ _. ⌜ now (path .exit) ≡ front (spec.pathOf (entryIn (now (l .entry))) (getD (keysOf (entryIn (now (l .entry)))) 0 [])) (now (path .entry)) ⌝ }
 {
     let m = e.width;
@@ -247,7 +249,7 @@ fn first_path(l: &[u8], t: &[u16], e: Encoding, path: &mut [usize])
         let x = first_edge(l, e, RecordIndex(r));
         let o = x.0;
         path[d] = o;
-        r = encoding::ones_before(l, t, e, x) + 1;
+        r = encoding::level_end(l, e, d) / 2;
         d += 1;
     }
 }
@@ -293,8 +295,8 @@ fn step_at(l: &[u8], e: Encoding, path: &mut [usize], out: &mut [u8]) -> Walked
 }
 
 // From before the first member.
-fn step_before(l: &[u8], t: &[u16], e: Encoding, path: &mut [usize], out: &mut [u8]) -> Walked
-    requires { ⌜ Opens (now l) e × Tallies (now t) × (now path ≡ replicate maxWidth 0) ⌝ }
+fn step_before(l: &[u8], e: Encoding, path: &mut [usize], out: &mut [u8]) -> Walked
+    requires { ⌜ Opens (now l) e × (now path ≡ replicate maxWidth 0) ⌝ }
     ensures { λ r. ⌜ walkedOf r (now (path .exit)) (now (out .exit)) ≡ spec.advance (entryIn (now (l .entry))) (at spec.before (now (path .entry))) (now (out .entry)) ⌝ }
 {
     if e.bits == 0 {
@@ -310,7 +312,7 @@ fn step_before(l: &[u8], t: &[u16], e: Encoding, path: &mut [usize], out: &mut [
             state: State::Before,
         };
     }
-    first_path(l, t, e, path);
+    first_path(l, e, path);
     let n = query::write_key(path, m, out);
     Walked {
         answer: Step::Wrote(n),
@@ -318,17 +320,14 @@ fn step_before(l: &[u8], t: &[u16], e: Encoding, path: &mut [usize], out: &mut [
     }
 }
 
-// From a right cursor, as a step that was not refused 15 leaves it: only 14 is tested. Only the first step counts set bits, so only it makes the table.
+// From a right cursor, as a step that was not refused 15 leaves it: only 14 is tested.
 pub fn step_right(l: &[u8], e: Encoding, s: State, path: &mut [usize], out: &mut [u8]) -> Walked
     requires { ⌜ Opens (now l) e × (spec.isCursorOf (entryIn (now l)) (at (stateOf s) (now path)) ≡ true) ⌝ }
     ensures { λ r. ⌜ walkedOf r (now (path .exit)) (now (out .exit)) ≡ spec.advance (entryIn (now (l .entry))) (at (stateOf s) (now (path .entry))) (now (out .entry)) ⌝ }
 {
     match s {
         State::At => step_at(l, e, path, out),
-        State::Before => {
-            let t = bits::tallies();
-            step_before(l, &t, e, path, out)
-        }
+        State::Before => step_before(l, e, path, out),
         State::After => Walked {
             answer: Step::Wrote(0),
             state: State::After,
@@ -339,7 +338,7 @@ pub fn step_right(l: &[u8], e: Encoding, s: State, path: &mut [usize], out: &mut
 // From any cursor: 15, then 14 unless it goes to after.
 pub fn step_any(
     l: &[u8],
-    t: &[u16],
+    t: &[u8],
     e: Encoding,
     s: State,
     path: &mut [usize],
@@ -358,7 +357,7 @@ pub fn step_any(
 }
 
 // The step by value.
-pub fn advanced(l: &[u8], t: &[u16], e: Encoding, c: Cursor, out: &mut [u8]) -> Stepped
+pub fn advanced(l: &[u8], t: &[u8], e: Encoding, c: Cursor, out: &mut [u8]) -> Stepped
     requires { ⌜ Opens (now l) e × Tallies (now t) ⌝ }
     ensures { λ r. ⌜ steppedOf r (now (out .exit)) ≡ spec.advance (entryIn (now (l .entry))) (cursorOf c) (now (out .entry)) ⌝ }
 {

@@ -27,7 +27,7 @@ use Rattle.loes.proofs.Reading.{bits-front, Passed, passed, valid-passed}
 use Rattle.loes.proofs.Seven.{Agrees, encode-agrees, seven}
 use Rattle.bits.specs.Tables.{noneEmpty}
 use Rattle.bits.proofs.Counts.{ones-more}
-use Rattle.bits.proofs.Tally.{full-more}
+use Rattle.bits.proofs.Records.{full-more}
 use Rattle.bits.proofs.Packed.{packs, packs-clear}
 use Rattle.encoding.specs.declared.Encoding.{Encoding}
 use Rattle.encoding.specs.Opened.{Placed, edgesAt, Room, Counted, Opens}

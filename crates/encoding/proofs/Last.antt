@@ -1,15 +1,18 @@
 -- The last byte, if it is not whole.
-use mathlib.Core.Path.{_≡_, refl, ap, _∙_}
-use Prim.Native.Nat.{ℕ, _+_, _-_, _*_, _/_, _%_, _^_, _≤_, _<_}
-use mathlib.Core.Bool.{Bool, true, false, not}
+use mathlib.Core.Path.{_≡_, sym, ap, _∙_}
+use Prim.Native.Nat.{ℕ, _+_, _-_, _/_, _%_, _^_, _<_}
 use native.Mathlib.Omega.{arith}
 use lib.ListN.{drop, getD}
 use lib.Seq.{getD-drop}
-use Rattle.loes.specs.Bytes.{Bytes, bit, tabulate, bitsIn}
+use lib.Dec.{eqb}
+use lib.Bits.{bitAnd, bitOr}
+use lib.Count
+use Rattle.loes.specs.Bytes.{Bytes, tabulate, bitsIn}
 use Rattle.loes.specs.Edges.{ones}
-use Rattle.bits.specs.Tables.{noneEmpty, tallyOf}
-use Rattle.bits.proofs.Counts.{byte-bits, ones-bits-le}
-use Rattle.bits.proofs.Part.{frontBits, front-tally}
+use Rattle.loes.proofs.Tests.{yes-eq}
+use Rattle.bits.specs.Tables.{noneEmpty}
+use Rattle.bits.proofs.Counts.{byte-bits}
+use Rattle.bits.proofs.Part.{frontBits, front-ones, front-full}
 use Rattle.encoding.specs.declared.Encoding.{Encoding}
 use Rattle.encoding.specs.Agree.{lastEdges, LastRight}
 
@@ -35,24 +38,20 @@ module _ (l : Bytes) (e : Encoding) where
   pub last-set : 0 < used → (lastByte % 2 ^ (8 - used) ≡ 0 → ⊥) → LastRight l e → ⊥
   last-set p h w = h (rw byte-is at (w .0 p))
 
-  module _ (s : ℕ) (small : lastByte < 256) (c : lastByte % 2 ^ (8 - used) ≡ 0) (h : s ≡ tallyOf (lastByte + (2 ^ (8 - used) - 1))) where
-    tally-is : s ≡ ones (bitsIn (lastEdges l e) used) + (8 - used) + 1024 * bit (not (noneEmpty (bitsIn (lastEdges l e) used)))
-    tally-is = rw edges-are (h ∙ front-tally lastByte used small (omega arith) c)
+  -- u is what the lowest of the used bits counts, and the left-over bits are clear
+  module _ (u : ℕ) (unit : u ≡ 2 ^ (8 - used)) (small : lastByte < 256) (clear : lastByte % u ≡ 0) where
+    -- the byte with its left-over bits set
+    abbrev pub filled : ℕ
+    filled = lastByte + (u - 1)
 
-    pub last-le : 8 - used ≤ s
-    last-le = omega (arith, tally-is)
+    clear-here : lastByte % 2 ^ (8 - used) ≡ 0
+    clear-here = rw unit at clear
 
-    full-is : (b : Bool) → noneEmpty (bitsIn (lastEdges l e) used) ≡ b → 1024 * bit (not (noneEmpty (bitsIn (lastEdges l e) used))) ≡ 1024 * bit (not b)
-    full-is b z = ap (λ x. 1024 * bit (not x)) z
+    full-is : eqb (bitAnd 85 (bitOr filled (filled / 2))) 85 ≡ noneEmpty (bitsIn (lastEdges l e) used)
+    full-is = rw (unit, edges-are) (front-full lastByte used small (omega arith) clear-here)
 
-    pub last-empty : 1024 ≤ s → LastRight l e → ⊥
-    last-empty k w = omega (arith, tally-is, full-is true (w .1), ones-bits-le (lastEdges l e) used)
+    pub last-empty : (bitAnd 85 (bitOr filled (filled / 2)) ≡ 85 → ⊥) → LastRight l e → ⊥
+    last-empty h w = h (yes-eq (bitAnd 85 (bitOr filled (filled / 2))) 85 (full-is ∙ w .1))
 
-    pub last-full : s < 1024 → LastRight l e × (s - (8 - used) ≡ ones (bitsIn (lastEdges l e) used))
-    last-full k =
-        let f : noneEmpty (bitsIn (lastEdges l e) used) ≡ true = go (noneEmpty (bitsIn (lastEdges l e) used)) refl in
-        ((λ p. rw byte-is c, f), omega (arith, tally-is, full-is true f))
-      where
-        go : (b : Bool) → noneEmpty (bitsIn (lastEdges l e) used) ≡ b → b ≡ true
-        go true z = refl
-        go false z = absurd (omega (arith, tally-is, full-is false z))
+    pub last-full : bitAnd 85 (bitOr filled (filled / 2)) ≡ 85 → LastRight l e × (Count.ones lastByte ≡ ones (bitsIn (lastEdges l e) used))
+    last-full h = ((λ p. rw byte-is clear-here, sym full-is ∙ ap (λ v. eqb v 85) h), rw edges-are (front-ones lastByte used small (omega arith) clear-here))

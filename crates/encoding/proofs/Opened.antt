@@ -8,8 +8,8 @@ use lib.ListN.{length, drop, getD, length-drop}
 use Rattle.loes.specs.Limits.{maxWidth, maxEdges, blockBits, subBlockBits}
 use Rattle.loes.specs.Bytes.{Bytes, started, numberAt, bitAt, bitsIn}
 use Rattle.loes.specs.Entry.{Entry, edgesOf, edgeCount, Valid}
-use Rattle.loes.specs.Encode.{blockOnes, subBlockOnes, encode}
-use Rattle.loes.specs.Read.{start4, start5, start6, endOf, edgesIn, followed, entryIn}
+use Rattle.loes.specs.Encode.{blockOnes, subBlockOnes, levelEnd, encode}
+use Rattle.loes.specs.Read.{start3, start4, start5, start6, endOf, edgesIn, followed, entryIn}
 use Rattle.loes.specs.Held.{held, Holds}
 use Rattle.loes.proofs.Lent.{end-most}
 use Rattle.loes.proofs.Bytes.{getD-tabulate}
@@ -94,6 +94,10 @@ module _ (l : Bytes) (e : Encoding) (o : Opens l e) where
 
   opens-agrees : Agrees l (entryIn l)
   opens-agrees = subst (λ x. Agrees x (entryIn l)) (sym opens-encode) (encode-agrees (entryIn l) opens-valid)
+
+  -- field 3 has the ends of the levels
+  pub opens-levels : (d : ℕ) → d < e .width → numberAt 4 l (start3 + 3 + 4 * d) ≡ levelEnd (entryIn l) d
+  opens-levels d h = opens-agrees .levels d (omega (arith, h, o .width))
 
   pub opens-edges : edgesAt l e ≡ edgesOf (entryIn l)
   unfolding edgesAt edgesIn entryIn followed

@@ -12,12 +12,12 @@ use Rattle.loes.specs.Bytes.{Bytes, tabulate, started, numberAt, bitsIn}
 use Rattle.loes.specs.Edges.{ones, onesBefore}
 use Rattle.loes.specs.Encode.{blockOnes, subBlockOnes}
 use Rattle.loes.proofs.Tests.{both}
-use Rattle.bits.specs.Tables.{noneEmpty, tally}
+use Rattle.bits.specs.Tables.{noneEmpty}
 use Rattle.bits.proofs.Counts.{before-bits, ones-more, ones-bits-le}
-use Rattle.bits.proofs.Tally.{full-more, tally-good, tally-bad}
+use Rattle.bits.proofs.Records.{full-more}
 use Rattle.encoding.specs.declared.Encoding.{Encoding}
 use Rattle.encoding.specs.Opened.{edgesAt, Room, Counted}
-use Rattle.encoding.specs.Agree.{EntriesAt, WholeRight}
+use Rattle.encoding.specs.Agree.{EntriesAt, BlockBase, WholeRight}
 use Rattle.encoding.proofs.Opened.{room-at}
 use Rattle.encoding.proofs.Index.{sub-block-start}
 
@@ -58,6 +58,24 @@ module _ (l : Bytes) (e : Encoding) where
       let zs : (512 * j) / 512 ≡ j = omega arith in
       (rw zb at (o .1), rw zs at (o .2))
 
+  -- the block's entry is read at its first sub-block, and stands for the others
+  abbrev pub Later : ℕ → ℕ → Type 0
+  Later j base = (j % 128 ≡ 0 → ⊥) → numberAt 8 l (e .blocks + 8 * (j / 128)) ≡ base
+
+  pub based : (j base n b : ℕ) → base ≤ n → Later j base → (j % 128 ≡ 0 → b ≡ n) × ((j % 128 ≡ 0 → ⊥) → b ≡ base) → BlockBase l e j b n
+  based j base n b h f q =
+      record {
+        below = elim (decLe 1 (j % 128)) [ yes p ↦ omega (arith, q .1 (λ z. omega (arith, z, p))) | no p ↦ omega (arith, q .0 (omega arith)) ];
+        first = q .0;
+        later = λ z. f z ∙ sym (q .1 z);
+      }
+
+  pub later-next : (j b n : ℕ) → BlockBase l e j b n → EntriesAt l e j n → Later (j + 1) b
+  later-next j b n d x z =
+      let v : (j + 1) / 128 ≡ j / 128 = elim (decLe 1 ((j + 1) % 128)) [ yes p ↦ omega arith | no p ↦ absurd (z (omega arith)) ] in
+      ap (λ i. numberAt 8 l (e .blocks + 8 * i)) v
+      ∙ elim (decLe 1 (j % 128)) [ yes p ↦ d .later (λ w. omega (arith, w, p)) | no p ↦ let w : j % 128 ≡ 0 = omega arith in x .1 w ∙ sym (d .first w) ]
+
   module _ (j n : ℕ) (g : Going l e j n) where
     pub count-le : n ≤ e .bits
     count-le = omega (arith, g .count, ones-bits-le (drop (e .edges) l) (8 * done e j))
@@ -89,35 +107,36 @@ module _ (l : Bytes) (e : Encoding) where
         (a, omega (arith, a, t, x .0))
 
     -- the bytes of sub-block j
-    module _ (upto k : ℕ) (h : subBlockBits * j < e .bits) (u : upto ≡ min (64 * j + 64) (e .bits / 8))
-        (q : k ≡ tally (drop (e .edges + 64 * j) l) (e .edges + upto - (e .edges + 64 * j))) where
-      tally-here : k ≡ tally (drop (64 * j) (drop (e .edges) l)) (upto - 64 * j)
-      tally-here =
-          let z : e .edges + upto - (e .edges + 64 * j) ≡ upto - 64 * j = omega arith in
-          q ∙ ap₂ tally (sym (drop-drop (64 * j) (e .edges) l)) z
+    module _ (upto : ℕ) (h : subBlockBits * j < e .bits) (u : upto ≡ min (64 * j + 64) (e .bits / 8)) where
+      abbrev pub partBits : List Bool
+      partBits = bitsIn (drop (e .edges + 64 * j) l) (8 * (e .edges + upto - (e .edges + 64 * j)))
 
-      pub tally-wrong : 1024 ≤ k → WholeRight l e → ⊥
-      tally-wrong b w =
+      part-here : partBits ≡ bitsIn (drop (64 * j) (drop (e .edges) l)) (8 * (upto - 64 * j))
+      part-here =
+          let z : 8 * (e .edges + upto - (e .edges + 64 * j)) ≡ 8 * (upto - 64 * j) = omega arith in
+          ap₂ bitsIn (sym (drop-drop (64 * j) (e .edges) l)) z
+
+      pub part-wrong : (noneEmpty partBits ≡ true → ⊥) → WholeRight l e → ⊥
+      part-wrong b w =
           let y : Bytes = drop (e .edges) l in
           let z : 8 * (e .bits / 8) ≡ 8 * upto + 8 * (e .bits / 8 - upto) = omega (arith, u) in
           let v : 8 * upto ≡ 8 * (64 * j) + 8 * (upto - 64 * j) = omega (arith, u) in
           let f : noneEmpty (bitsIn y (8 * upto)) ≡ true = both (noneEmpty (bitsIn y (8 * upto))) (noneEmpty (bitsIn (drop upto y) (8 * (e .bits / 8 - upto)))) (sym (ap (λ m. noneEmpty (bitsIn y m)) z ∙ full-more y upto (8 * (e .bits / 8 - upto))) ∙ w .1) .0 in
           let s : noneEmpty (bitsIn (drop (64 * j) y) (8 * (upto - 64 * j))) ≡ true =
           both (noneEmpty (bitsIn y (8 * (64 * j)))) (noneEmpty (bitsIn (drop (64 * j) y) (8 * (upto - 64 * j)))) (sym (ap (λ m. noneEmpty (bitsIn y m)) v ∙ full-more y (64 * j) (8 * (upto - 64 * j))) ∙ f) .1 in
-          omega (arith, tally-here, tally-bad (drop (64 * j) y) (upto - 64 * j) (omega (arith, u)) s)
+          b (ap noneEmpty part-here ∙ s)
 
-      pub going-next : k < 1024 → EntriesAt l e j n → Going l e (j + 1) (n + k)
-      going-next b x =
+      pub going-next : (k : ℕ) → (noneEmpty partBits ≡ true) × (k ≡ ones partBits) → EntriesAt l e j n → Going l e (j + 1) (n + k)
+      going-next k t x =
           let y : Bytes = drop (e .edges) l in
           let d : done e j ≡ 64 * j = omega arith in
           let v : 8 * done e (j + 1) ≡ 8 * (64 * j) + 8 * (upto - 64 * j) = omega (arith, u) in
-          let t = tally-good (drop (64 * j) y) (upto - 64 * j) (omega (arith, tally-here, b)) in
           let c : n ≡ ones (bitsIn y (8 * (64 * j))) = rw d at (g .count) in
           let f : noneEmpty (bitsIn y (8 * (64 * j))) ≡ true = rw d at (g .full) in
           let r = entries-are h x in
           record {
-            count = omega (arith, c, tally-here, t .1, ap (λ m. ones (bitsIn y m)) v, ones-more y (64 * j) (8 * (upto - 64 * j)));
-            full = ap (λ m. noneEmpty (bitsIn y m)) v ∙ full-more y (64 * j) (8 * (upto - 64 * j)) ∙ ap₂ _&&_ f (t .0);
+            count = omega (arith, c, t .1, ap ones part-here, ap (λ m. ones (bitsIn y m)) v, ones-more y (64 * j) (8 * (upto - 64 * j)));
+            full = ap (λ m. noneEmpty (bitsIn y m)) v ∙ full-more y (64 * j) (8 * (upto - 64 * j)) ∙ ap₂ _&&_ f (ap noneEmpty (sym part-here) ∙ t .0);
             blocks = below-next (λ i. numberAt 8 l (e .blocks + 8 * (i / 128)) ≡ blockOnes (edgesAt l e) (i / 128)) j (g .blocks) (r .0);
             sub-blocks = below-next (λ i. numberAt 2 l (e .«sub_blocks» + 2 * i) ≡ subBlockOnes (edgesAt l e) i) j (g .sub-blocks) (r .1);
           }

@@ -1,6 +1,6 @@
 -- What the check of 7 finds, part by part.
 use mathlib.Core.Path.{_≡_}
-use Prim.Native.Nat.{ℕ, suc, _+_, _*_, _/_, _%_, _^_, _-_, _<_}
+use Prim.Native.Nat.{ℕ, suc, _+_, _*_, _/_, _%_, _^_, _-_, _<_, _≤_}
 use mathlib.Core.Bool.{Bool, true}
 use lib.ListN.{getD, drop}
 use Rattle.loes.specs.Limits.{subBlocks}
@@ -23,6 +23,21 @@ abbrev pub EntriesAt : Bytes → Encoding → ℕ → ℕ → Type 0
 EntriesAt l e j n =
     (numberAt 8 l (e .blocks + 8 * (j / subBlocks)) + numberAt 2 l (e .«sub_blocks» + 2 * j) ≡ n)
     × (j % subBlocks ≡ 0 → numberAt 8 l (e .blocks + 8 * (j / subBlocks)) ≡ n)
+
+-- `base` set bits before the block of sub-block j, n before the sub-block: they are the same at a block's first, and behind it the block's entry is right
+pub record BlockBase (l : Bytes) (e : Encoding) (j base n : ℕ) : Type 0 where
+  pub below : base ≤ n
+  pub first : j % subBlocks ≡ 0 → base ≡ n
+  pub later : (j % subBlocks ≡ 0 → ⊥) → numberAt 8 l (e .blocks + 8 * (j / subBlocks)) ≡ base
+
+-- so many edges are counted faster than looked up
+abbrev pub near : ℕ
+near = 256
+
+-- the first n bytes: no record is empty, and so many bits are set
+abbrev pub Full : Bytes → ℕ → Tallied → Type 0
+Full l n (Ones k) = (noneEmpty (bitsIn l (8 * n)) ≡ true) × (k ≡ ones (bitsIn l (8 * n)))
+Full l n Wrong = noneEmpty (bitsIn l (8 * n)) ≡ true → ⊥
 
 -- the whole edge bytes: fields 5 and 6 are right, no record is empty, and so many bits are set
 abbrev pub WholeRight : Bytes → Encoding → Type 0

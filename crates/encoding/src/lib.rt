@@ -1,23 +1,23 @@
 // An opened encoding: reading the fields, the full check, and rank behind it.
-ghost use Prim.Native.Nat.{_+_, _-_, _*_, _^_, _<_, _≤_, min};
+ghost use Prim.Native.Nat.{ℕ, _+_, _-_, _*_, _%_, _^_, _<_, _≤_, min};
 ghost use mathlib.Core.Path.{_≡_};
 ghost use mathlib.Core.Bool.{false};
-ghost use lib.ListN.{length, getD};
-ghost use Rattle.loes.specs.Limits.{maxWidth, maxEdges, subBlockBits};
-ghost use Rattle.loes.specs.Bytes.{started, sameNumbers};
+ghost use lib.ListN.{length, drop, getD};
+ghost use Rattle.loes.specs.Limits.{maxWidth, maxEdges, subBlockBits, subBlocks};
+ghost use Rattle.loes.specs.Bytes.{started, numberAt, sameNumbers};
 ghost use Rattle.loes.specs.Edges.{onesBefore};
 ghost use Rattle.loes.specs.Entry.{edgesOf};
-ghost use Rattle.loes.specs.Encode.{encode};
+ghost use Rattle.loes.specs.Encode.{levelEnd, encode};
 ghost use Rattle.loes.specs.Refusals.{firstOf};
-ghost use Rattle.loes.specs.Read.{start4, entryIn, fieldTests, headTests, tailTests};
+ghost use Rattle.loes.specs.Read.{start3, start4, entryIn, fieldTests, headTests, tailTests};
 ghost use Rattle.loes.specs.Calls.{openCall, rankCall};
 ghost use Rattle.loes.proofs.Ends.{roots};
 ghost use Rattle.bits.specs.Tables.{Tallies};
+ghost use Rattle.bits.specs.Words.{Scanned};
 ghost use Rattle.encoding.specs.Opened.{Opens, Placed, Room, Counted, edgesAt};
 ghost use Rattle.encoding.specs.Fields.{refusalOf, bodyBytes, laidBy, Fields, Parsed, Checks};
-ghost use Rattle.encoding.specs.Agree.{Tells, EntriesAt, Whole, Last, Levelled};
+ghost use Rattle.encoding.specs.Agree.{Tells, EntriesAt, BlockBase, near, Full, Whole, Last, Levelled};
 ghost use Rattle.encoding.specs.Answers.{toldOutcome, rankedOutcome};
-use bits::EMPTY_RECORD;
 use bits::EdgeOffset;
 use loes::refusal;
 
@@ -208,8 +208,11 @@ fn parse(l: &[u8]) -> Checked
 }
 
 // ---- Rank
+// So many edges are counted faster than looked up.
+const NEAR: usize = 256;
+
 // The set bits before an offset, by the index fields.
-fn indexed_ones(l: &[u8], t: &[u16], e: Encoding, o: EdgeOffset) -> usize
+fn indexed_ones(l: &[u8], t: &[u8], e: Encoding, o: EdgeOffset) -> usize
     requires { ⌜ Room (now l) e × Counted (now l) e × Tallies (now t) × (o .0 ≤ e .bits) ⌝ }
     ensures { λ r. ⌜ r ≡ onesBefore (edgesAt (now (l .entry)) e) (o .0) ⌝ }
 {
@@ -224,7 +227,37 @@ fn indexed_ones(l: &[u8], t: &[u16], e: Encoding, o: EdgeOffset) -> usize
     let sub_block = bits::number2(l, e.sub_blocks + 2 * sub);
     let whole = bits::tally_bytes(l, t, e.edges + SUB_BLOCK_BYTES * sub, at);
     let x = (l[at] as usize) >> (7 - last % 8);
-    block + sub_block + whole % EMPTY_RECORD + (t[x] as usize) % EMPTY_RECORD
+    block + sub_block + whole + (t[x] as usize)
+}
+
+// The same if n are set before one near before it: its byte and those behind it are counted, less the bits before it in its byte.
+fn ones_near(l: &[u8], t: &[u8], e: Encoding, from: EdgeOffset, n: usize, o: EdgeOffset) -> usize
+    requires { ⌜ Room (now l) e × Tallies (now t) × (from .0 < o .0) × (o .0 ≤ from .0 + near) × (o .0 ≤ e .bits) × (n ≡ onesBefore (edgesAt (now l) e) (from .0)) ⌝ }
+    ensures { λ r. ⌜ r ≡ onesBefore (edgesAt (now (l .entry)) e) (o .0) ⌝ }
+{
+    let a = from.0;
+    let last = o.0 - 1;
+    let first = e.edges + a / 8;
+    let at = e.edges + last / 8;
+    let whole = bits::tally_bytes(l, t, first, at);
+    let x = (l[at] as usize) >> (7 - last % 8);
+    let before = (l[first] as usize) >> (8 - a % 8);
+    n + whole + (t[x] as usize) - (t[before] as usize)
+}
+
+// The same if n are set before one that is not behind it.
+fn ones_on(l: &[u8], t: &[u8], e: Encoding, from: EdgeOffset, n: usize, o: EdgeOffset) -> usize
+    requires { ⌜ Room (now l) e × Counted (now l) e × Tallies (now t) × (from .0 ≤ o .0) × (o .0 ≤ e .bits) × (n ≡ onesBefore (edgesAt (now l) e) (from .0)) ⌝ }
+    ensures { λ r. ⌜ r ≡ onesBefore (edgesAt (now (l .entry)) e) (o .0) ⌝ }
+{
+    let far = o.0 - from.0;
+    if far > NEAR {
+        return indexed_ones(l, t, e, o);
+    }
+    if far == 0 {
+        return n;
+    }
+    ones_near(l, t, e, from, n, o)
 }
 
 // ---- The check of 7
@@ -248,44 +281,109 @@ pub fn roots_of(bits: usize) -> usize
     if 0 < bits { 1 } else { 0 }
 }
 
-// Whether the entries of sub-block j and of its block fit n set bits before it.
-fn entries_agree(l: &[u8], e: Encoding, j: usize, n: usize) -> bool
-    requires { ⌜ Room (now l) e × (subBlockBits * j < e .bits) ⌝ }
+// The set bits before a sub-block's block: those before the sub-block if it is its first, else the same as before.
+pub fn block_base(j: usize, base: usize, ones: usize) -> usize
+    ensures { λ r. ⌜ (j % subBlocks ≡ 0 → r ≡ ones) × ((j % subBlocks ≡ 0 → ⊥) → r ≡ base) ⌝ }
+{
+    if j % SUB_BLOCKS == 0 { ones } else { base }
+}
+
+// Whether the entries of sub-block j and of its block fit n set bits before it, and `base` before its block: the block's is read at its first sub-block.
+fn entries_agree(l: &[u8], e: Encoding, j: usize, base: usize, n: usize) -> bool
+    requires { ⌜ Room (now l) e × (subBlockBits * j < e .bits) × BlockBase (now l) e j base n ⌝ }
     ensures { λ r. ⌜ Tells r (EntriesAt (now (l .entry)) e j n) ⌝ }
 {
-    let block = bits::number8(l, e.blocks + 8 * (j / SUB_BLOCKS));
-    if n < block {
-        return false;
-    }
-    if bits::number2(l, e.sub_blocks + 2 * j) != n - block {
-        return false;
-    }
     if j % SUB_BLOCKS == 0 {
-        return n == block;
+        if bits::number8(l, e.blocks + 8 * (j / SUB_BLOCKS)) != n {
+            return false;
+        }
     }
-    true
+    bits::number2(l, e.sub_blocks + 2 * j) == n - base
+}
+
+// The lower bit of each of a word's 32 records, and of a byte's four.
+const RECORDS: u64 = 0x5555_5555_5555_5555;
+
+const BYTE_RECORDS: usize = 0x55;
+
+// What is found in bytes: RECORDS as long as no record is empty, and the set bits.
+pub struct Scan {
+    pub full: u64,
+    pub ones: usize,
+}
+
+// So many words from a byte on: a record is empty if neither of its bits is set.
+fn scan_words(l: &[u8], from: usize, words: usize) -> Scan
+    requires { ⌜ (words ≤ 8) × (from + 8 * words ≤ length (now l)) ⌝ }
+    ensures { λ r. ⌜ Scanned (drop from (now (l .entry))) (8 * words) (r .full) (r .ones) ⌝ }
+{
+    let mut full = RECORDS;
+    let mut n: usize = 0;
+    let mut i = 0;
+    while i < words {
+        let x = bits::word(l, from + 8 * i);
+        full = full & (x | (x >> 1));
+        n += u64::count_ones(x) as usize;
+        i += 1;
+    }
+    Scan { full, ones: n }
+}
+
+// The bytes from..upto of a sub-block that is not whole: words, then fewer than eight bytes as one.
+fn part_ones(l: &[u8], from: usize, upto: usize) -> Tallied
+    requires { ⌜ (from ≤ upto) × (upto ≤ length (now l)) × (upto ≤ from + 64) ⌝ }
+    ensures { λ r. ⌜ Full (drop from (now (l .entry))) (upto - from) r ⌝ }
+{
+    let size = upto - from;
+    let p = scan_words(l, from, size / 8);
+    if p.full != RECORDS {
+        return Tallied::Wrong;
+    }
+    let k = size % 8;
+    let x = bits::part_word(l, upto - k, k);
+    if RECORDS & (x | (x >> 1)) != RECORDS % (1u64 << (8 * k)) {
+        return Tallied::Wrong;
+    }
+    let n = p.ones + (u64::count_ones(x) as usize);
+    Tallied::Ones(n)
+}
+
+// The bytes from..upto of a sub-block: its eight words by a loop of their own when compiled.
+fn bytes_ones(l: &[u8], from: usize, upto: usize) -> Tallied
+    requires { ⌜ (from ≤ upto) × (upto ≤ length (now l)) × (upto ≤ from + 64) ⌝ }
+    ensures { λ r. ⌜ Full (drop from (now (l .entry))) (upto - from) r ⌝ }
+{
+    if upto - from < SUB_BLOCK_BYTES {
+        return part_ones(l, from, upto);
+    }
+    let p = scan_words(l, from, SUB_BLOCK_BYTES / 8);
+    if p.full != RECORDS {
+        return Tallied::Wrong;
+    }
+    Tallied::Ones(p.ones)
 }
 
 // One pass over the whole edge bytes, sub-block by sub-block: no record is empty, and both index fields are right.
-fn whole_ones(l: &[u8], t: &[u16], e: Encoding) -> Tallied
-    requires { ⌜ Room (now l) e × Tallies (now t) ⌝ }
+fn whole_ones(l: &[u8], e: Encoding) -> Tallied
+    requires { ⌜ Room (now l) e ⌝ }
     ensures { λ r. ⌜ Whole (now (l .entry)) e r ⌝ }
 {
     let edges = e.edges;
     let whole = e.bits / 8;
     let end = started_by(e.bits, Encoding::SUB_BLOCK_BITS);
+    let mut base = 0;
     let mut n = 0;
     let mut j = 0;
     while j < end {
-        if !entries_agree(l, e, j, n) {
+        base = block_base(j, base, n);
+        if !entries_agree(l, e, j, base, n) {
             return Tallied::Wrong;
         }
         let from = SUB_BLOCK_BYTES * j;
         let upto = lesser(from + SUB_BLOCK_BYTES, whole);
-        let k = bits::tally_bytes(l, t, edges + from, edges + upto);
-        if k >= EMPTY_RECORD {
+        let Tallied::Ones(k) = bytes_ones(l, edges + from, edges + upto) else {
             return Tallied::Wrong;
-        }
+        };
         n += k;
         j += 1;
     }
@@ -301,8 +399,8 @@ fn lowest(used: usize) -> usize
 }
 
 // The last byte, if it is not whole: its left-over bits are clear, and with them set no record is empty.
-fn last_ones(l: &[u8], t: &[u16], e: Encoding) -> Tallied
-    requires { ⌜ Room (now l) e × Tallies (now t) ⌝ }
+fn last_ones(l: &[u8], e: Encoding) -> Tallied
+    requires { ⌜ Room (now l) e ⌝ }
     ensures { λ r. ⌜ Last (now (l .entry)) e r ⌝ }
 {
     let used = e.bits % 8;
@@ -315,42 +413,74 @@ fn last_ones(l: &[u8], t: &[u16], e: Encoding) -> Tallied
     if x % unit != 0 {
         return Tallied::Wrong;
     }
-    let k = t[x + (unit - 1)] as usize;
-    if k >= EMPTY_RECORD {
+    let y = x + (unit - 1);
+    if BYTE_RECORDS & (y | (y >> 1)) != BYTE_RECORDS {
         return Tallied::Wrong;
     }
-    Tallied::Ones(k - (8 - used))
+    let n = usize::count_ones(x) as usize;
+    Tallied::Ones(n)
 }
 
-// Whether field 3 has the ends of the levels: each is twice the records so far, the roots and one for each set bit before the level.
-fn levels_agree(l: &[u8], t: &[u16], e: Encoding) -> bool
-    requires { ⌜ Room (now l) e × Counted (now l) e × Tallies (now t) ⌝ }
-    ensures { λ r. ⌜ Tells r (Levelled (now (l .entry)) e) ⌝ }
+// Whether every level ends at 0, as in the empty set.
+fn levels_empty(l: &[u8], width: usize) -> bool
+    requires { ⌜ (width ≤ maxWidth) × (start3 + 3 + 4 * width ≤ length (now l)) ⌝ }
+    ensures { λ r. ⌜ Tells r ((d : ℕ) → d < width → numberAt 4 (now (l .entry)) (start3 + 3 + 4 * d) ≡ 0) ⌝ }
 {
-    let width = e.width;
-    let roots = roots_of(e.bits);
-    let mut n = 0;
     let mut d = 0;
     while d < width {
-        let end = 2 * (roots + n);
-        if bits::number4(l, LEVELS + 4 * d) != end {
+        if bits::number4(l, LEVELS + 4 * d) != 0 {
             return false;
         }
-        n = indexed_ones(l, t, e, EdgeOffset(lesser(end, e.bits)));
         d += 1;
     }
     true
 }
 
+// Whether each level ends at twice the records so far: the roots, and one for each set bit before the level.
+// The next claim is read before the set bits to this one are counted, so that no read waits for a count.
+fn levels_counted(l: &[u8], t: &[u8], e: Encoding) -> bool
+    requires { ⌜ Room (now l) e × Counted (now l) e × Tallies (now t) ⌝ }
+    ensures { λ r. ⌜ Tells r (Levelled (now (l .entry)) e) ⌝ }
+{
+    let width = e.width;
+    let roots = roots_of(e.bits);
+    let mut from = 0;
+    let mut start = 0;
+    let mut n = 0;
+    let mut d = 0;
+    while d < width {
+        let end = bits::number4(l, LEVELS + 4 * d);
+        n = ones_on(l, t, e, EdgeOffset(from), n, EdgeOffset(start));
+        if end != 2 * (roots + n) {
+            return false;
+        }
+        from = start;
+        start = lesser(end, e.bits);
+        d += 1;
+    }
+    true
+}
+
+// Whether field 3 has the ends of the levels.
+fn levels_agree(l: &[u8], t: &[u8], e: Encoding) -> bool
+    requires { ⌜ Room (now l) e × Counted (now l) e × Tallies (now t) ⌝ }
+    ensures { λ r. ⌜ Tells r (Levelled (now (l .entry)) e) ⌝ }
+{
+    if e.bits == 0 {
+        return levels_empty(l, e.width);
+    }
+    levels_counted(l, t, e)
+}
+
 // Whether the bytes are the encoding of the set that following their edges gives.
-fn agrees(l: &[u8], t: &[u16], e: Encoding) -> bool
+fn agrees(l: &[u8], t: &[u8], e: Encoding) -> bool
     requires { ⌜ Fields (now l) e × Tallies (now t) ⌝ }
     ensures { λ r. ⌜ r ≡ sameNumbers (now (l .entry)) (encode (entryIn (now (l .entry)))) ⌝ }
 {
-    let Tallied::Ones(n) = whole_ones(l, t, e) else {
+    let Tallied::Ones(n) = whole_ones(l, e) else {
         return false;
     };
-    let Tallied::Ones(k) = last_ones(l, t, e) else {
+    let Tallied::Ones(k) = last_ones(l, e) else {
         return false;
     };
     if !levels_agree(l, t, e) {
@@ -361,7 +491,7 @@ fn agrees(l: &[u8], t: &[u16], e: Encoding) -> bool
 }
 
 // The full check behind every public call.
-pub fn check(l: &[u8], t: &[u16]) -> Checked
+pub fn check(l: &[u8], t: &[u8]) -> Checked
     requires { ⌜ Tallies (now t) ⌝ }
     ensures { λ r. ⌜ Checks (now (l .entry)) r ⌝ }
 {
@@ -378,11 +508,19 @@ pub fn check(l: &[u8], t: &[u16]) -> Checked
 
 // ---- Behind the check
 // The set bits before an offset, 0 to b.
-pub fn ones_before(l: &[u8], t: &[u16], e: Encoding, o: EdgeOffset) -> usize
+pub fn ones_before(l: &[u8], t: &[u8], e: Encoding, o: EdgeOffset) -> usize
     requires { ⌜ Opens (now l) e × Tallies (now t) × (o .0 ≤ e .bits) ⌝ }
     ensures { λ r. ⌜ r ≡ onesBefore (edgesOf (entryIn (now (l .entry)))) (o .0) ⌝ }
 {
     indexed_ones(l, t, e, o)
+}
+
+// Where level d ends.
+pub fn level_end(l: &[u8], e: Encoding, d: usize) -> usize
+    requires { ⌜ Opens (now l) e × (d < e .width) ⌝ }
+    ensures { λ r. ⌜ r ≡ levelEnd (entryIn (now (l .entry))) d ⌝ }
+{
+    bits::number4(l, LEVELS + 4 * d)
 }
 
 // Whether the edge at an offset is set.
@@ -417,7 +555,7 @@ pub enum Ranked {
 }
 
 // Behind the check.
-pub fn rank_in(l: &[u8], t: &[u16], e: Encoding, o: EdgeOffset) -> Ranked
+pub fn rank_in(l: &[u8], t: &[u8], e: Encoding, o: EdgeOffset) -> Ranked
     requires { ⌜ Opens (now l) e × Tallies (now t) ⌝ }
     ensures { λ r. ⌜ rankedOutcome r ≡ rankCall (now (l .entry)) (o .0) ⌝ }
 {

@@ -51,7 +51,7 @@ fn pair_of(first: Checked, second: Checked) -> Pair
 }
 
 // Both are checked, the first first.
-fn open_both(a: &[u8], b: &[u8], t: &[u16]) -> Pair
+fn open_both(a: &[u8], b: &[u8], t: &[u8]) -> Pair
     requires { ⌜ Tallies (now t) ⌝ }
     ensures { λ r. ⌜ Both (now (a .entry)) (now (b .entry)) r ⌝ }
 {
@@ -110,7 +110,7 @@ fn subtracted(
 }
 
 // Writes the entry that k edge bits hold: 5, then 14.
-fn write_joined(m: usize, k: usize, edges: &[u8], t: &[u16], out: &mut [u8]) -> Written
+fn write_joined(m: usize, k: usize, edges: &[u8], t: &[u8], out: &mut [u8]) -> Written
     requires { ⌜ Joined m k (now edges) × Tallies (now t) × (length (now edges) ≤ largeQueue) ⌝ }
     ensures { λ r. ⌜ writtenOutcome r (now (out .exit)) ≡ writes [] (held m k (now (edges .entry)) ∷ []) (now (out .entry) ∷ []) .outcome ⌝ }
 {
@@ -126,7 +126,7 @@ fn join_with(
     kind: Join,
     a: &[u8],
     b: &[u8],
-    t: &[u16],
+    t: &[u8],
     q: &mut [u8],
     edges: &mut [u8],
     out: &mut [u8],

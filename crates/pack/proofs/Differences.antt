@@ -10,7 +10,7 @@ use Rattle.loes.specs.Bytes.{bit, odd}
 use Rattle.loes.proofs.Bits.{bit-odd}
 use Rattle.pack.specs.Batch.{FirstDifference}
 
-xor-none : (a b : ℕ) → bitXor a b ≡ 0 → a ≡ b
+pub xor-none : (a b : ℕ) → bitXor a b ≡ 0 → a ≡ b
 xor-none a b e = omega (arith, xor-add-and a b, and-le-l a b, and-le-r a b)
 
 differ-self : (a : ℕ) → differ a a ≡ 0

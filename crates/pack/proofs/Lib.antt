@@ -2,6 +2,7 @@ pub mod Grow
 pub mod Marked
 pub mod SetBits
 pub mod Differences
+pub mod Agreeing
 pub mod Prefixes
 pub mod Places
 pub mod Order

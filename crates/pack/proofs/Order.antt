@@ -1,14 +1,14 @@
 -- The order of two keys, by the first bit in which they differ
 use mathlib.Core.Path.{_≡_, refl, sym, _∙_}
 use Prim.Native.Nat.{ℕ, zero, suc, _-_, _*_, _≤_, _<_}
-use mathlib.Core.Bool.{true, false}
+use mathlib.Core.Bool.{true, false, false≢true}
 use mathlib.Core.List.{[], _∷_}
 use native.Mathlib.Omega.{arith}
 use lib.ListN.{length, getD}
 use Rattle.loes.specs.Bytes.{Bytes, bitAt}
 use Rattle.loes.specs.Keys.{Key, less}
 use Rattle.loes.proofs.Histories.{length-key}
-use Rattle.pack.specs.Rising.{commonPrefix, firstNew}
+use Rattle.pack.specs.Rising.{commonPrefix, firstNew, Rising}
 use Rattle.pack.specs.Batch.{key, previous, KeyThere}
 use Rattle.pack.proofs.Prefixes.{key-bit}
 use Rattle.pack.proofs.Places.{lent, lent-is, new-after}
@@ -21,6 +21,23 @@ less-at (false ∷ j) (false ∷ k) l h = less-at j k (omega arith) (omega arith
 less-at (true ∷ j) (true ∷ k) l h = less-at j k (omega arith) (omega arith)
 less-at (false ∷ j) (true ∷ k) l h = refl
 less-at (true ∷ j) (false ∷ k) l h = refl
+
+-- the key behind has 1 there
+grows-at : (j k : Key) → length j ≡ length k → commonPrefix j k < length j → less k j ≡ false → getD k (commonPrefix j k) false ≡ true
+unfolding less commonPrefix
+grows-at [] k l h e = absurd (omega arith)
+grows-at (x ∷ j) [] l h e = absurd (omega arith)
+grows-at (false ∷ j) (false ∷ k) l h e = grows-at j k (omega arith) (omega arith) e
+grows-at (true ∷ j) (true ∷ k) l h e = grows-at j k (omega arith) (omega arith) e
+grows-at (false ∷ j) (true ∷ k) l h e = refl
+grows-at (true ∷ j) (false ∷ k) l h e = absurd (false≢true (sym e))
+
+pub new-bit : (m n : ℕ) (f : ℕ → Key) → Rising m n f → (i : ℕ) → i < n → 0 < firstNew f i → firstNew f i ≤ m → getD (f i) (firstNew f i - 1) false ≡ true
+unfolding firstNew
+new-bit m n f r zero h p q = absurd (omega arith)
+new-bit m n f r (suc i) h p q =
+    let z : suc (commonPrefix (f i) (f (suc i))) - 1 ≡ commonPrefix (f i) (f (suc i)) = omega arith in
+    rw z (grows-at (f i) (f (suc i)) (r .wide i (omega arith) ∙ sym (r .wide (suc i) h)) (omega (arith, r .wide i (omega arith))) (r .rise i h))
 
 less-none : (j k : Key) → length j ≡ length k → length j ≤ commonPrefix j k → less k j ≡ false
 unfolding less commonPrefix

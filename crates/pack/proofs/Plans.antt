@@ -2,8 +2,9 @@
 use mathlib.Core.Path.{_≡_, sym, ap, _∙_}
 use Prim.Native.Nat.{ℕ, _+_, _*_, _/_, _%_, _≤_, _<_}
 use mathlib.Core.List.{List, _++_}
-use mathlib.Core.Option.{some}
+use mathlib.Core.Option.{none, some}
 use native.Mathlib.Omega.{arith}
+use native.Mathlib.Nat.{mul-assoc, mul-le-mul-right}
 use lib.ListN.{length, drop, getD, replicate}
 use Rattle.loes.specs.Limits.{maxWidth, maxEdges}
 use Rattle.loes.specs.Bytes.{Bytes, started, packBits, front}
@@ -16,10 +17,10 @@ use Rattle.loes.proofs.Navigation.{recordsBefore}
 use Rattle.pack.specs.Rising.{setBelow}
 use Rattle.pack.specs.Marking.{sumBelow, maxRecords, Starts}
 use Rattle.pack.specs.Batch.{key, RecordsCounted, Unmarked}
-use Rattle.pack.specs.Packing.{edgeTests, Planned, Unfilled, Made}
+use Rattle.pack.specs.Packing.{edgeTests, edgeRoom, Planned, Unfilled, Made}
 use Rattle.pack.specs.declared.Checked.the-variants.{Accepted}
 use Rattle.pack.proofs.Sums.{sum-records}
-use Rattle.pack.proofs.Turn.{counted-le}
+use Rattle.pack.proofs.Turn.{counted-le, records-few}
 use Rattle.pack.proofs.Places.{few-keys}
 use Rattle.pack.proofs.KeyTests.{rising}
 use Rattle.pack.proofs.Batches.{keys, set-is, edge-count, batch-is, too-large, passes, Clean, clean}
@@ -44,6 +45,17 @@ module _ (m : ℕ) (l : Bytes) (positive : 0 < m) (narrow : m ≤ maxWidth) (eve
     plan-ready h =
         let b : 2 * r ≡ edgeCount (batchEntry m l) = omega (arith, st .total h, sum-is m (omega arith), edge-count m l) in
         (record { accepted = passes m l positive narrow even (c .0) (omega arith); starts = λ e q. st .each h e q ∙ sum-is e (omega arith) }, b)
+
+-- an accepted batch has room for its edges
+pub room-for : (m : ℕ) (l : Bytes) (b : ℕ) → firstOf (edgeTests m l) ≡ none → b ≡ edgeCount (batchEntry m l) → (b + 7) / 8 ≤ edgeRoom l
+unfolding edgeRoom keyBytes started
+room-for m l b a e =
+    let w : Clean m l = clean m l a in
+    let n : ℕ = keys m l in
+    let t : ℕ = (m + 7) / 8 in
+    let q : m * n ≤ 8 * t * n = mul-le-mul-right n (omega arith) in
+    let p : 8 * t * n ≡ 8 * (t * n) = mul-assoc 8 t n in
+    omega (arith, e, w .few, w .batch .whole, p, q, edge-count m l, ap (recordsBefore m m) (set-is m l), records-few m n (key m l) (w .rises) m (omega arith))
 
 -- ---- filling
 module _ (m : ℕ) (l : Bytes) (levels : List ℕ) (old : Bytes) (u : Unfilled m l levels old) where

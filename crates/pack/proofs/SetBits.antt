@@ -11,10 +11,12 @@ use lib.ListN.{length, getD, set, length-set}
 use lib.Pow.{pow-add, shl-shr}
 use lib.Bits.{bitAnd, bitOr, or-add-and, and-high}
 use lib.Seq.{ext-getD, getD-set-same, getD-set-other, set-getD}
-use Rattle.loes.specs.Bytes.{bit, odd, bitAt, tabulate, bitsValue, byteOf, packBits, started}
+use lib.Dec.{leb}
+use borrow.Author.Tests.{lt-leb}
+use Rattle.loes.specs.Bytes.{Bytes, bit, odd, bitAt, tabulate, bitsValue, byteOf, packBits, started}
 use Rattle.loes.proofs.Bytes.{getD-tabulate, length-packed}
 use Rattle.loes.proofs.Bits.{tabulate-ext, at-packed, bit-odd, bitsValue-snoc}
-use Rattle.pack.specs.Marking.{setBit, setBits}
+use Rattle.pack.specs.Marking.{setBit, setBits, lastEdges, offsetOf}
 
 -- one bit more
 value-set : (f g : ℕ → Bool) (n j : ℕ) → j < n → f j ≡ false → g j ≡ true → ((x : ℕ) → x < n → (x ≡ j → ⊥) → g x ≡ f x)
@@ -124,7 +126,43 @@ pub bits-none : (o : ℕ → ℕ) (from : ℕ) (l : List ℕ) → l ≡ setBits 
 unfolding setBits
 bits-none o from l = let z : from - from ≡ 0 = omega arith in rw z
 
+pub bits-past : (o : ℕ → ℕ) (from n : ℕ) (l : List ℕ) → n ≤ from → l ≡ setBits o from (n - from) l
+unfolding setBits
+bits-past o from n l h = let z : n - from ≡ 0 = omega arith in rw z
+
+-- bits set one after another
+bits-join : (o : ℕ → ℕ) (from a b : ℕ) (l : List ℕ) → setBits o (from + a) b (setBits o from a l) ≡ setBits o from (a + b) l
+unfolding setBits
+bits-join o from a zero l = let z : a + 0 ≡ a = omega arith in rw z
+bits-join o from a (suc b) l =
+    let z : a + suc b ≡ suc (a + b) = omega arith in
+    let w : from + a + b ≡ from + (a + b) = omega arith in
+    rw (bits-join o from a b l, z, w)
+
+pub bits-all : (o : ℕ → ℕ) (new m : ℕ) (l cur : List ℕ) → new ≤ m → cur ≡ setBits o (new - 1) (new - (new - 1)) l → setBits o new (m - new) cur ≡ setBits o (new - 1) (m - (new - 1)) l
+bits-all o new m l cur h e =
+    let z : new - 1 + (new - (new - 1)) ≡ new = omega arith in
+    let w : new - (new - 1) + (m - new) ≡ m - (new - 1) = omega arith in
+    ap (setBits o new (m - new)) e ∙ rw (z, w) at (bits-join o (new - 1) (new - (new - 1)) (m - new) l)
+
 -- ---- a truth value as a number
 pub byte-bit : (b : Bool) → boolByte b ≡ bit b
 byte-bit true = refl
 byte-bit false = refl
+
+-- the same bits
+pub bits-ext : (o p : ℕ → ℕ) (from n : ℕ) (l : List ℕ) → ((j : ℕ) → j < n → o (from + j) ≡ p (from + j)) → setBits o from n l ≡ setBits p from n l
+unfolding setBits
+bits-ext o p from zero l h = refl
+bits-ext o p from (suc n) l h = rw (bits-ext o p from n l (λ j x. h j (omega arith)), h n (omega arith))
+
+-- the bit above the first new level
+pub above-is : (cursors : List ℕ) (new : ℕ) (key edges : Bytes) → (0 < new → (0 < getD cursors (new - 1) 0) × (bitAt key (new - 1) ≡ true))
+    → setBits (lastEdges cursors) (new - 1) (new - (new - 1)) edges ≡ setBits (offsetOf cursors new key) (new - 1) (new - (new - 1)) edges
+unfolding lastEdges offsetOf
+above-is cursors new key edges h =
+    bits-ext (lastEdges cursors) (offsetOf cursors new key) (new - 1) (new - (new - 1)) edges (λ j x.
+    let z : new - 1 + j ≡ new - 1 = omega arith in
+    let p = h (omega arith) in
+    let q : leb new (new - 1) ≡ false = lt-leb new (new - 1) (omega arith) in
+    rw (z, p .1, q) (omega (arith, p .0)))

@@ -6,6 +6,7 @@ use mathlib.Core.List.{List}
 use native.Mathlib.Omega.{arith}
 use native.Mathlib.Numerals.{add-one}
 use native.Mathlib.Decide.{le-ind}
+use native.Mathlib.Nat.{suc-mul}
 use lib.ListN.{length, take, drop, getD, take-append-drop}
 use lib.Seq.{length-take-le}
 use lib.Dec.{leb}
@@ -19,6 +20,7 @@ use Rattle.pack.specs.Rising.{firstNew, setBelow, Rising}
 use Rattle.pack.specs.Marking.{Bumped, maxRecords, offsetOf, setBits, Room}
 use Rattle.pack.proofs.Grow.{count-step, count-start, place, in-below}
 use Rattle.pack.proofs.Prefixes.{key-bit}
+use Rattle.pack.proofs.Order.{new-bit}
 use Rattle.pack.proofs.Marked.{markedEdges, edgeOffset}
 use Rattle.pack.proofs.Pass.{mark-key, offset-is}
 
@@ -30,7 +32,7 @@ pub none-yet : (m : ℕ) (base : ℕ → ℕ) (f : ℕ → Key) (l : List ℕ) �
 none-yet m base f l z = λ e h. omega (arith, z e h, count-start m f e)
 
 module _ (m n : ℕ) (base : ℕ → ℕ) (f : ℕ → Key) (r : Rising m n f) where
-  count-le : (i e : ℕ) → i ≤ n → e < m → prefixCount e m (setBelow f i) ≤ i
+  pub count-le : (i e : ℕ) → i ≤ n → e < m → prefixCount e m (setBelow f i) ≤ i
   count-le zero e h l = omega (arith, count-start m f e)
   count-le (suc i) e h l = omega (arith, count-step m n f r i e h (omega arith), count-le i e (omega arith) l, bit-le (leb (firstNew f i) e))
 
@@ -41,6 +43,12 @@ module _ (m n : ℕ) (base : ℕ → ℕ) (f : ℕ → Key) (r : Rising m n f) w
       → Counted m base f (i + 1) new
   counted-more i from old new h q u c = λ e le.
       rw (add-one i) (omega (arith, u .each e le, c e le, count-step m n f r i e h (omega arith), ap (λ x. bit (leb x e)) q))
+
+-- no more records on a level than keys
+pub records-few : (m n : ℕ) (f : ℕ → Key) → Rising m n f → (d : ℕ) → d ≤ m → recordsBefore d m (setBelow f n) ≤ d * n
+unfolding recordsBefore
+records-few m n f r zero h = omega arith
+records-few m n f r (suc d) h = omega (arith, records-few m n f r d (omega arith), count-le m n (λ x. 0) f r n d (omega arith) h, suc-mul d n)
 
 -- ---- marking: the records before each level are those of the whole set
 pub records-le : (d m : ℕ) (s : KeySet) → d < m → recordsBefore d m s + prefixCount d m s ≤ recordsBefore m m s
@@ -65,16 +73,19 @@ module _ (m n : ℕ) (f : ℕ → Key) (r : Rising m n f) where
     cursor : (e : ℕ) → e < m → getD cursors e 0 + bit (leb new e) ≡ before e + prefixCount e m (setBelow f (suc i))
     cursor e l = rw is (omega (arith, c e l, count-step m n f r i e h (omega arith)))
 
-    pub room-mark : (key edges : Bytes) → keyBytes m ≤ length key → m ≤ length cursors → before m ≤ maxRecords → length edges ≡ started 8 (2 * before m)
+    pub room-mark : (key edges : Bytes) → keyIn m key ≡ f i → keyBytes m ≤ length key → m ≤ length cursors → before m ≤ maxRecords → length edges ≡ started 8 (2 * before m)
         → Room m new key cursors edges
     unfolding started
-    room-mark key edges far long few len =
+    room-mark key edges k far long few len =
         record {
           far = far;
           long = long;
           some = λ e l. omega (arith, cursor e l, place m n f r i e h (omega arith));
           fit = λ e l. omega (arith, cursor e l, count-all i e h l, records-le e m (setBelow f n) l, len);
           small = omega (arith, few, len);
+          later = λ p q.
+              sym (key-bit m key (new - 1) (omega arith)) ∙ ap (λ x. getD x (new - 1) false) k ∙ ap (λ x. getD (f i) (x - 1) false) is
+              ∙ new-bit m n f r i h (omega (arith, is, p)) (omega (arith, is, q));
         }
 
     offsets : (key : Bytes) → keyIn m key ≡ f i → (e : ℕ) → e < m → offsetOf cursors new key e ≡ edgeOffset e (f i) m (setBelow f n)

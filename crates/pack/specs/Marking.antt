@@ -1,12 +1,12 @@
 -- Records counted by level, and bits set in edge bytes.
 use mathlib.Core.Path.{_≡_}
 use Prim.Native.Nat.{ℕ, zero, suc, _+_, _-_, _/_, _%_, _^_, _*_, _<_, _≤_}
-use mathlib.Core.Bool.{cond}
+use mathlib.Core.Bool.{true, cond}
 use mathlib.Core.List.{List}
 use lib.ListN.{length, getD, set}
 use lib.Dec.{leb}
 use Rattle.loes.specs.Limits.{maxEdges}
-use Rattle.loes.specs.Bytes.{Bytes, bit, bitAt}
+use Rattle.loes.specs.Bytes.{Bytes, bit, bitAt, tabulate}
 use Rattle.loes.specs.Entry.{keyBytes}
 
 -- one more from a level on
@@ -18,6 +18,10 @@ pub record Bumped (from m : ℕ) (old new : List ℕ) : Type 0 where
 unfoldable pub sumBelow : List ℕ → ℕ → ℕ
 sumBelow l zero = 0
 sumBelow l (suc d) = sumBelow l d + getD l d 0
+
+-- what is noted at a level and before it, for each of m levels
+unfoldable pub running : List ℕ → ℕ → List ℕ
+running l m = tabulate (λ (e : ℕ). sumBelow l (suc e)) m
 
 -- so many records have room: two bits each
 abbrev pub maxRecords : ℕ
@@ -42,6 +46,10 @@ setBits o from (suc n) l = setBit (setBits o from n l) (o (from + n))
 unfoldable pub offsetOf : List ℕ → ℕ → Bytes → ℕ → ℕ
 offsetOf cursors new key e = 2 * (getD cursors e 0 + bit (leb new e) - 1) + bit (bitAt key e)
 
+-- the second edge of each level's last record, from cursors behind it
+unfoldable pub lastEdges : List ℕ → ℕ → ℕ
+lastEdges cursors e = 2 * getD cursors e 0 - 1
+
 -- there is that record, and it lies in the edge bytes
 pub record Room (m new : ℕ) (key : Bytes) (cursors : List ℕ) (edges : Bytes) : Type 0 where
   pub far : keyBytes m ≤ length key
@@ -49,3 +57,5 @@ pub record Room (m new : ℕ) (key : Bytes) (cursors : List ℕ) (edges : Bytes)
   pub some : (e : ℕ) → e < m → 0 < getD cursors e 0 + bit (leb new e)
   pub fit : (e : ℕ) → e < m → 2 * (getD cursors e 0 + bit (leb new e)) ≤ 8 * length edges
   pub small : length edges ≤ maxEdges / 8
+  -- above its first new level the key goes on with 1
+  pub later : 0 < new → new ≤ m → bitAt key (new - 1) ≡ true

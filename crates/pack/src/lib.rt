@@ -1,7 +1,7 @@
 // A sorted batch of keys made to edge bytes, and the call pack.
 ghost use mathlib.Core.Path.{_≡_};
 ghost use Prim.Native.Nat.{ℕ, _+_, _-_, _*_, _/_, _^_, _<_, _≤_};
-ghost use lib.ListN.{length, getD, replicate};
+ghost use lib.ListN.{length, drop, getD, replicate};
 ghost use Rattle.loes.specs.Limits.{maxWidth, maxEdges};
 ghost use Rattle.loes.specs.Edges.{edges as edgesIn};
 ghost use Rattle.loes.specs.Bytes.{packBits};
@@ -11,9 +11,9 @@ ghost use Rattle.loes.specs.Model.{keyIn, batchEntry};
 ghost use Rattle.loes.specs.Calls.{packCall};
 ghost use Rattle.bits.specs.Tables.{Tallies};
 ghost use Rattle.build.specs.Writing.{writtenOutcome};
-ghost use Rattle.pack.specs.Packing.{Blank, Planned, Unfilled, BatchEdges};
+ghost use Rattle.pack.specs.Packing.{edgeRoom, smallBatch, Blank, Planned, Unfilled, BatchEdges};
 ghost use Rattle.pack.specs.Rising.{commonPrefix, firstNew, setBelow};
-ghost use Rattle.pack.specs.Marking.{Bumped, Starts, setBit, setBits, offsetOf, Room};
+ghost use Rattle.pack.specs.Marking.{Bumped, running, Starts, setBit, setBits, lastEdges, offsetOf, Room};
 ghost use Rattle.pack.specs.Batch.{SameBytes, FirstDifference, key, previous, KeyThere, KeyChecked, Uncounted, RecordsCounted, Unmarked};
 use bits::EdgeOffset;
 use build::Written;
@@ -32,12 +32,22 @@ pub enum Checked {
 }
 
 // ---- How far neighbours agree
-// How many bytes agree, from the first on, of t at most.
-fn same_bytes(x: &[u8], y: &[u8], t: usize) -> usize
-    requires { ⌜ (t ≤ length (now x)) × (t ≤ length (now y)) ⌝ }
+// How many of eight bytes agree, from the first on.
+fn same_in_word(x: &[u8], y: &[u8], at: usize) -> usize
+    requires { ⌜ (at + 8 ≤ length (now x)) × (at + 8 ≤ length (now y)) ⌝ }
+    ensures { λ r. ⌜ SameBytes (drop at (now (x .entry))) (drop at (now (y .entry))) 8 r ⌝ }
+{
+    let p = bits::word(x, at);
+    let q = bits::word(y, at);
+    u64::trailing_zeros(p ^ q) as usize / 8
+}
+
+// How many bytes agree, from the first on, of t at most, where those before `from` do.
+fn same_from(x: &[u8], y: &[u8], from: usize, t: usize) -> usize
+    requires { ⌜ (t ≤ length (now x)) × (t ≤ length (now y)) × (from ≤ t) × ((i : ℕ) → i < from → getD (now x) i 0 ≡ getD (now y) i 0) ⌝ }
     ensures { λ r. ⌜ SameBytes (now (x .entry)) (now (y .entry)) t r ⌝ }
 {
-    let mut j = 0;
+    let mut j = from;
     while j < t {
         if x[j] != y[j] {
             return j;
@@ -45,6 +55,33 @@ fn same_bytes(x: &[u8], y: &[u8], t: usize) -> usize
         j += 1;
     }
     j
+}
+
+// The same from the first on, eight bytes at a time first.
+fn same_words(x: &[u8], y: &[u8], t: usize) -> usize
+    requires { ⌜ (t ≤ length (now x)) × (t ≤ length (now y)) ⌝ }
+    ensures { λ r. ⌜ SameBytes (now (x .entry)) (now (y .entry)) t r ⌝ }
+{
+    let mut j = 0;
+    while 8 <= t - j {
+        let k = same_in_word(x, y, j);
+        if k < 8 {
+            return j + k;
+        }
+        j += 8;
+    }
+    same_from(x, y, j, t)
+}
+
+// How many bytes agree, from the first on, of t at most.
+fn same_bytes(x: &[u8], y: &[u8], t: usize) -> usize
+    requires { ⌜ (t ≤ length (now x)) × (t ≤ length (now y)) ⌝ }
+    ensures { λ r. ⌜ SameBytes (now (x .entry)) (now (y .entry)) t r ⌝ }
+{
+    if 8 <= t {
+        return same_words(x, y, t);
+    }
+    same_from(x, y, 0, t)
 }
 
 // The first bit in which two bytes differ, the most significant being bit 0.
@@ -116,22 +153,20 @@ fn check_key(batch: &[u8], i: usize, t: usize, m: usize) -> Checked
     Checked::Accepted(new)
 }
 
-// One record more on each level from a level on; none where the key is that before it.
-fn bump(counts: &mut [usize], from: usize, m: usize)
+// One record more on each level from a level on, noted at that level alone; none where the key is that before it.
+fn note(counts: &mut [usize], from: usize, m: usize)
     requires { ⌜ (m ≤ length (now counts)) × ((e : ℕ) → e < m → getD (now counts) e 0 + 1 < 2 ^ 64) ⌝ }
-    ensures { λ _. ⌜ Bumped from m (now (counts .entry)) (now (counts .exit)) ⌝ }
+    ensures { λ _. ⌜ Bumped from m (running (now (counts .entry)) m) (running (now (counts .exit)) m) ⌝ }
 {
-    let mut e = from;
-    while e < m {
-        counts[e] += 1;
-        e += 1;
+    if from < m {
+        counts[from] += 1;
     }
 }
 
-// Checks the keys one by one, and counts the records of each level.
+// Checks the keys one by one, and notes where each has its first new record.
 fn count_records(batch: &[u8], n: usize, t: usize, m: usize, counts: &mut [usize]) -> Checked
     requires { ⌜ Uncounted m t n (now batch) (now counts) ⌝ }
-    ensures { λ r. ⌜ RecordsCounted m n (now (batch .entry)) (now (counts .exit)) r ⌝ }
+    ensures { λ r. ⌜ RecordsCounted m n (now (batch .entry)) (running (now (counts .exit)) m) r ⌝ }
 {
     let mut i = 0;
     while i < n {
@@ -141,7 +176,7 @@ fn count_records(batch: &[u8], n: usize, t: usize, m: usize, counts: &mut [usize
                 return Checked::Refused(k);
             }
             Checked::Accepted(new) => {
-                bump(counts, new, m);
+                note(counts, new, m);
             }
         }
         i += 1;
@@ -149,21 +184,22 @@ fn count_records(batch: &[u8], n: usize, t: usize, m: usize, counts: &mut [usize
     Checked::Accepted(n)
 }
 
-// Puts the records before each level in place of those of each level; how many there are in all, or so far where there are too many.
+// Puts the records before each level in place of what is noted at it; how many there are in all, or so far where there are too many.
 fn level_starts(levels: &mut [usize], m: usize) -> usize
-    requires { ⌜ (m ≤ length (now levels)) × ((e : ℕ) → e < m → getD (now levels) e 0 < 2 ^ 63) ⌝ }
-    ensures { λ r. ⌜ Starts m (now (levels .entry)) (now (levels .exit)) r ⌝ }
+    requires { ⌜ (m ≤ length (now levels)) × ((d : ℕ) → d < m → getD (running (now levels) m) d 0 < 2 ^ 63) ⌝ }
+    ensures { λ r. ⌜ Starts m (running (now (levels .entry)) m) (now (levels .exit)) r ⌝ }
 {
+    let mut size = 0;
     let mut records = 0;
-    let mut e = 0;
-    while e < m {
-        let k = levels[e];
-        levels[e] = records;
-        records += k;
+    let mut d = 0;
+    while d < m {
+        size += levels[d];
+        levels[d] = records;
+        records += size;
         if records > MAX_RECORDS {
             return records;
         }
-        e += 1;
+        d += 1;
     }
     records
 }
@@ -180,14 +216,16 @@ fn set_bit(b: &mut [u8], o: EdgeOffset)
     b[at] = x | (128u8 >> (n % 8));
 }
 
-// The level above the first new one, whose record gets a second edge; 0 for the first key.
-fn above(new: usize) -> usize
-    ensures { λ r. ⌜ r ≡ new - 1 ⌝ }
+// The last record of the level above the first new one gets its second edge; there is no such level for the first key.
+fn mark_above(new: usize, cursors: &[usize], edges: &mut [u8])
+    requires { ⌜ (0 < new → (new ≤ length (now cursors)) × (0 < getD (now cursors) (new - 1) 0) × (2 * getD (now cursors) (new - 1) 0 ≤ 8 * length (now edges))) × (length (now edges) ≤ maxEdges / 8) ⌝ }
+    ensures { λ _. ⌜ now (edges .exit) ≡ setBits (lastEdges (now (cursors .entry))) (new - 1) (new - (new - 1)) (now (edges .entry)) ⌝ }
 {
     if new == 0 {
-        return 0;
+        return;
     }
-    new - 1
+    let record = cursors[new - 1];
+    set_bit(edges, EdgeOffset(2 * record - 1));
 }
 
 // Moves the cursors of the levels on which a key has a new record, and sets its edges there and on the level above.
@@ -196,11 +234,15 @@ fn mark_key(key: &[u8], new: usize, m: usize, cursors: &mut [usize], edges: &mut
     ensures moved { λ _. ⌜ Bumped new m (now (cursors .entry)) (now (cursors .exit)) ⌝ }
     ensures set { λ _. ⌜ now (edges .exit) ≡ setBits (offsetOf (now (cursors .entry)) new (now (key .entry))) (new - 1) (m - (new - 1)) (now (edges .entry)) ⌝ }
 {
-    let mut e = above(new);
+    if m < new {
+        return;
+    }
+    mark_above(new, cursors, edges);
+    let mut e = new;
     while e < m {
-        let record = cursors[e] + (new <= e) as usize;
-        cursors[e] = record;
-        let o = 2 * (record - 1) + bits::bit_at(key, e) as usize;
+        let record = cursors[e];
+        cursors[e] = record + 1;
+        let o = 2 * record + bits::bit_at(key, e) as usize;
         set_bit(edges, EdgeOffset(o));
         e += 1;
     }
@@ -277,7 +319,7 @@ fn fill(batch: &[u8], m: usize, levels: &mut [usize], edges: &mut [u8])
 
 // Puts the edges of a batch's set to the front of a buffer, and tells how many bits they are; or refuses with 4, 10, then key by key 11 and 12, then 5.
 fn batch_edges(m: usize, batch: &[u8], edges: &mut [u8]) -> Checked
-    requires { ⌜ maxEdges / 8 ≤ length (now edges) ⌝ }
+    requires { ⌜ edgeRoom (now batch) ≤ length (now edges) ⌝ }
     ensures { λ r. ⌜ BatchEdges m (now (batch .entry)) (now (edges .entry)) (now (edges .exit)) r ⌝ }
 {
     let mut levels = no_records();
@@ -299,8 +341,8 @@ fn edge_room() -> [u8; MAX_EDGE_BYTES]
 }
 
 // Packs with the counting table and room for the edges lent.
-fn pack_with(m: usize, batch: &[u8], t: &[u16], edges: &mut [u8], out: &mut [u8]) -> Written
-    requires { ⌜ (maxEdges / 8 ≤ length (now edges)) × Tallies (now t) ⌝ }
+fn pack_with(m: usize, batch: &[u8], t: &[u8], edges: &mut [u8], out: &mut [u8]) -> Written
+    requires { ⌜ (edgeRoom (now batch) ≤ length (now edges)) × Tallies (now t) ⌝ }
     ensures { λ r. ⌜ writtenOutcome r (now (out .exit)) ≡ packCall m (now (batch .entry)) (now (out .entry)) ⌝ }
 {
     let made = batch_edges(m, batch, edges);
@@ -313,11 +355,43 @@ fn pack_with(m: usize, batch: &[u8], t: &[u16], edges: &mut [u8], out: &mut [u8]
     }
 }
 
-// Packs a batch of keys of m bits, laid end to end in rising order, to the front of a buffer.
-pub fn pack(m: usize, batch: &[u8], out: &mut [u8]) -> Written
+// Bytes of a small batch, and what its edges take at most.
+const SMALL_BATCH: usize = 1024;
+
+const SMALL_EDGE_BYTES: usize = 2 * SMALL_BATCH;
+
+// Room for them.
+fn small_room() -> [u8; SMALL_EDGE_BYTES]
+    ensures { λ r. ⌜ length r ≡ 2 * smallBatch ⌝ }
+{
+    [0; SMALL_EDGE_BYTES]
+}
+
+// Packs a small batch, which is not to pay for clearing the large room.
+fn pack_small(m: usize, batch: &[u8], out: &mut [u8]) -> Written
+    requires { ⌜ length (now batch) ≤ smallBatch ⌝ }
+    ensures { λ r. ⌜ writtenOutcome r (now (out .exit)) ≡ packCall m (now (batch .entry)) (now (out .entry)) ⌝ }
+{
+    let t = bits::tallies();
+    let mut edges = small_room();
+    pack_with(m, batch, &t, &mut edges, out)
+}
+
+// Packs any batch.
+fn pack_large(m: usize, batch: &[u8], out: &mut [u8]) -> Written
     ensures { λ r. ⌜ writtenOutcome r (now (out .exit)) ≡ packCall m (now (batch .entry)) (now (out .entry)) ⌝ }
 {
     let t = bits::tallies();
     let mut edges = edge_room();
     pack_with(m, batch, &t, &mut edges, out)
+}
+
+// Packs a batch of keys of m bits, laid end to end in rising order, to the front of a buffer.
+pub fn pack(m: usize, batch: &[u8], out: &mut [u8]) -> Written
+    ensures { λ r. ⌜ writtenOutcome r (now (out .exit)) ≡ packCall m (now (batch .entry)) (now (out .entry)) ⌝ }
+{
+    if batch.len() <= SMALL_BATCH {
+        return pack_small(m, batch, out);
+    }
+    pack_large(m, batch, out)
 }

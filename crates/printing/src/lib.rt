@@ -121,7 +121,7 @@ fn key_bytes(answer: Step) -> usize
     }
 }
 
-fn print_members(l: &[u8], t: &[u16], e: Encoding)
+fn print_members(l: &[u8], t: &[u8], e: Encoding)
     requires { ⌜ Opens (now l) e × Tallies (now t) ⌝ }
 {
     let mut text = io::buffer();

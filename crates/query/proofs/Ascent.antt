@@ -1,21 +1,23 @@
 -- From a member's index up to its path: the edge to a record is the set bit of the record's number less 1.
 use mathlib.Core.Path.{_≡_, refl, sym, ap, _∙_}
-use Prim.Native.Nat.{ℕ, suc, _+_, _-_, _/_, _≤_, _<_}
-use mathlib.Core.Bool.{false}
+use Prim.Native.Nat.{ℕ, suc, _+_, _-_, _*_, _/_, _≤_, _<_}
+use mathlib.Core.Bool.{true, false}
 use mathlib.Core.List.{List, [], _++_}
 use native.Mathlib.Omega.{arith}
 use native.Mathlib.Decide.{decLe}
 use lib.ListN.{length, take, drop, getD, set, length-append, length-drop, length-set, List·getD-append}
-use lib.Seq.{take-all, ext-getD, getD-append-add, getD-drop, getD-set-same, getD-set-other}
+use lib.Seq.{take-all, length-take-le, ext-getD, getD-append-add, getD-drop, getD-set-same, getD-set-other}
 use Rattle.loes.specs.Bytes.{odd, front}
-use Rattle.loes.specs.Keys.{Key}
-use Rattle.loes.specs.Edges.{ones, onesBefore, edges, edgeOffsets}
+use Rattle.loes.specs.Keys.{Key, KeySet}
+use Rattle.loes.specs.Limits.{maxEdges}
+use Rattle.loes.specs.Edges.{ones, onesBefore, edges, edgesBefore, edgeOffsets}
 use Rattle.loes.specs.Entry.{Entry, keysOf, count, edgesOf, edgeCount, Valid}
 use Rattle.loes.specs.Cursor.{pathOf}
 use Rattle.loes.proofs.Bytes.{getD-tabulate}
 use Rattle.loes.proofs.Bits.{tabulate-ext}
-use Rattle.loes.proofs.Tree.{bit-le}
-use Rattle.loes.proofs.Navigation.{length-edgesBefore, recordIndex}
+use Rattle.loes.proofs.Tree.{bit-le, inhabited, prefixesBefore, count-one}
+use Rattle.loes.proofs.Ends.{ends, ends-set}
+use Rattle.loes.proofs.Navigation.{recordsBefore, length-edgesBefore, recordIndex}
 use Rattle.loes.proofs.Members.{At, at-place}
 use Rattle.loes.proofs.Cursors.{length-offsets}
 use Rattle.bits.specs.Tables.{select}
@@ -23,7 +25,9 @@ use Rattle.loes.proofs.Seven.{ones-le}
 use Rattle.query.specs.Paths.{keyOf, pathKey}
 use Rattle.query.proofs.BitLists.{up, ones-less, rank-is}
 use Rattle.query.proofs.Paths.{recordAt, Leading, offsets-are, ofKey, key-of, member-leads}
-use Rattle.query.proofs.Select.{select-at}
+use Rattle.query.specs.Select.{levelStart}
+use Rattle.query.proofs.Descent.{inhabited-some}
+use Rattle.query.proofs.Select.{select-at, select-le}
 
 -- a list whose front is x
 pub front-by : (x l l' : List ℕ) → length x ≤ length l → length l' ≡ length l → ((j : ℕ) → j < length x → getD l' j 0 ≡ getD x j 0)
@@ -37,6 +41,22 @@ front-by x l l' h n a b =
           let z : j ≡ length x + (j - length x) = omega arith in
           b j (omega arith) ∙ sym (ap (λ i. getD (x ++ drop (length x) l) i 0) z ∙ getD-append-add x (drop (length x) l) (j - length x) 0 ∙ getD-drop (length x) l (j - length x) 0 ∙ ap (λ i. getD l i 0) (sym z))
     ])
+
+-- the set bits before a level: each leads to a record, of a level to this one, but for the first
+level-ones : (m : ℕ) (s : KeySet) (d : ℕ) → d < m → inhabited m s ≡ true → length (edgesBefore (d + 1) m s) ≡ 2 * (1 + onesBefore (edges m s) (length (edgesBefore d m s)))
+unfolding ends
+level-ones m s d h i =
+    ap (λ x. length (edgesBefore x m s)) (sym (up d)) ∙ ends-set (suc d) m s h
+    ∙ rw (count-one m s i) (ap (λ x. 2 * (1 + onesBefore (edges m s) x)) (rw (← (count-one m s i)) (sym (ends-set d m s (omega arith)))))
+
+-- the last level ends with the edges
+pub level-last : (e : Entry) (m b : ℕ) → m ≡ e .width → b ≡ edgeCount e → b ≡ levelStart e m
+unfolding levelStart edgeCount edgesOf edges
+level-last e m b em eb = rw em eb
+
+pub edge-few : (e : Entry) (k : ℕ) → Valid e → select (edgesOf e) k ≤ maxEdges
+unfolding edgeCount
+edge-few e k v = omega (arith, select-le (edgesOf e) k, v .few)
 
 module _ (e : Entry) (v : Valid e) (i : ℕ) (lt : i < count e) where
   -- the member at i, and its path
@@ -111,6 +131,18 @@ module _ (e : Entry) (v : Valid e) (i : ℕ) (lt : i < count e) where
     unfolding ofKey
     up-next = omega (arith, bit-le (getD (here .key) d false))
 
+    -- the level above, and the record's number on its own
+    up-level : (levelStart e (d + 1) / 2 ≤ r) × (onesBefore (edgesOf e) (levelStart e d) + (r - levelStart e (d + 1) / 2) ≡ r - 1)
+    unfolding levelStart edgesOf recordIndex
+    up-level =
+        let m : ℕ = e .width in
+        let s : KeySet = e .set in
+        let k : length (take (d + 1) (here .key)) ≡ d + 1 = length-take-le (d + 1) (here .key) (omega (arith, here .size)) in
+        let n : length (edgesBefore (d + 1) m s) ≡ 2 * recordsBefore (d + 1) m s = length-edgesBefore (d + 1) m s (omega arith) in
+        let f : r ≡ recordsBefore (d + 1) m s + prefixesBefore (take (d + 1) (here .key)) m s = er ∙ ap (λ x. recordsBefore x m s + prefixesBefore (take (d + 1) (here .key)) m s) k in
+        let g = level-ones m s d dm (inhabited-some m s (omega (arith, up-in .1, ones-le (edges m s)))) in
+        (omega (arith, n, f), omega (arith, n, f, g))
+
 -- ---- Level by level: the path from level d on is in the list, and r is the record on level d
 pub record UpTo (e : Entry) (i d r : ℕ) (os₀ os : List ℕ) : Type 0 where
   pub low : d ≤ e .width
@@ -137,6 +169,9 @@ module _ (e : Entry) (v : Valid e) (i : ℕ) (lt : i < count e) (os₀ : List �
 
     pub turn-in : (0 < r) × (r - 1 < ones (edgesOf e)) × (r ≤ edgeCount e)
     turn-in = up-in e v i lt (d - 1) r dm er
+
+    pub turn-level : (levelStart e d / 2 ≤ r) × (onesBefore (edgesOf e) (levelStart e (d - 1)) + (r - levelStart e d / 2) ≡ r - 1)
+    turn-level = let z : d - 1 + 1 ≡ d = omega arith in rw z at (up-level e v i lt (d - 1) r dm er)
 
     pub turn-next : (o : ℕ) → o ≡ select (edgesOf e) (r - 1) → UpTo e i (d - 1) (o / 2) os₀ (set os (d - 1) o)
     turn-next o q =

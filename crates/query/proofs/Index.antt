@@ -1,24 +1,52 @@
 -- The index fields choose where a search for a set bit starts.
 use mathlib.Core.Path.{_≡_, refl, sym, ap, ap₂, _∙_}
-use Prim.Native.Nat.{ℕ, _+_, _-_, _*_, _/_, _≤_, _<_}
-use mathlib.Core.Bool.{Bool}
+use Prim.Native.Nat.{ℕ, suc, _+_, _-_, _*_, _/_, _%_, _^_, _≤_, _<_}
+use mathlib.Core.Bool.{Bool, false, _&&_}
 use mathlib.Core.List.{List}
 use native.Mathlib.Omega.{arith}
-use lib.ListN.{length, drop, length-drop}
+use native.Mathlib.Decide.{decLe}
+use lib.Seq.{take-all, getD-drop}
+use lib.Dec.{leb, ltb}
+use borrow.Author.Tests.{leb-false}
+use Rattle.loes.proofs.Tests.{lt-yes}
+use lib.ListN.{length, take, drop, getD, length-drop}
 use Rattle.loes.specs.Limits.{blockBits, subBlockBits}
 use Rattle.loes.specs.Bytes.{Bytes, started, numberAt, bitsIn}
 use Rattle.loes.specs.Edges.{ones, onesBefore}
-use Rattle.loes.specs.Entry.{edgesOf}
+use Rattle.loes.specs.Entry.{edgesOf, edgeCount}
 use Rattle.loes.specs.Encode.{blockOnes, subBlockOnes}
-use Rattle.loes.specs.Read.{entryIn}
-use Rattle.bits.specs.Tables.{select}
-use Rattle.bits.proofs.Counts.{before-bits}
+use Rattle.loes.specs.Read.{start5, entryIn}
+use Rattle.bits.specs.Tables.{select, bits8, Tallies}
+use Rattle.bits.proofs.Counts.{before-bits, ones-more, shift-small, part-ones}
+use Rattle.loes.proofs.Seven.{ones-le}
 use Rattle.encoding.specs.declared.Encoding.{Encoding}
 use Rattle.encoding.specs.Opened.{Opens, edgesAt}
 use Rattle.encoding.proofs.Opened.{opens-room, opens-edges, opens-counted}
 use Rattle.encoding.proofs.Index.{sub-block-start}
 use Rattle.query.specs.Select.{numbered}
 use Rattle.query.proofs.Select.{ones-mono, select-more}
+
+-- not by k, though there: more
+pub more-by : (a b n k : ℕ) → (ltb a b && leb n k) ≡ false → a < b → k < n
+more-by a b n k h g = leb-false n k (rw (lt-yes a b g) at h)
+
+-- a part that goes to the end
+pub part-is : (l : Bytes) (n : ℕ) → take (length l - n) (drop n l) ≡ drop n l
+part-is l n = take-all (length l - n) (drop n l) (omega (arith, length-drop n l))
+
+-- the set bits of a byte before an offset, by the table
+pub before-is : (l d t : Bytes) (at from : ℕ) → d ≡ drop at l → Tallies t → getD l (at + from / 8) 0 < 256
+    → getD t (getD l (at + from / 8) 0 / 2 ^ (8 - from % 8)) 0 ≡ ones (bitsIn (drop (from / 8) d) (from % 8))
+before-is l d t at from part table small =
+    let y : Bytes = drop at l in
+    let g : getD l (at + from / 8) 0 ≡ getD y (from / 8) 0 = sym (getD-drop at l (from / 8) 0) in
+    table .rule (getD l (at + from / 8) 0 / 2 ^ (8 - from % 8)) (shift-small (getD l (at + from / 8) 0) (8 - from % 8) small)
+    ∙ ap (λ x. ones (bits8 (x / 2 ^ (8 - from % 8)))) g
+    ∙ part-ones y (from / 8) (from % 8) (omega (arith, g, small)) (omega arith) ∙ ap (λ x. ones (bitsIn (drop (from / 8) x) (from % 8))) (sym part)
+
+before-all : (e : List Bool) (n : ℕ) → length e ≤ n → onesBefore e n ≡ ones e
+unfolding onesBefore
+before-all e n h = ap ones (take-all n e h)
 
 pub first-block : (e : List Bool) → blockOnes e 0 ≡ 0
 unfolding blockOnes onesBefore ones
@@ -47,11 +75,28 @@ module _ (l : Bytes) (e : Encoding) (o : Opens l e) where
         ∙ ap₂ (λ x y. ones (bitsIn x y)) (sym part) (sym z) in
         omega (arith, y, sub-block-start (edgesOf (entryIn l)) sub, ea, ec, ap (blockOnes (edgesOf (entryIn l))) q)
 
-    -- the set bits of the edges come first
-    pub select-is : (k : ℕ) → k < ones (edgesOf (entryIn l)) → (k < ones (bitsIn d (8 * length d))) × (select (bitsIn d (8 * length d)) k ≡ select (edgesOf (entryIn l)) k)
-    unfolding edgesAt started
+    -- the set bits of the edges come first, and eight bytes and more follow theirs
+    pub select-is : (k : ℕ) → k < ones (edgesOf (entryIn l)) → (k < ones (bitsIn d (8 * (length d - 8)))) × (select (bitsIn d (8 * length d)) k ≡ select (edgesOf (entryIn l)) k)
+    unfolding edgesAt started start5 edgeCount
     select-is k h =
-        let r : e .bits ≤ 8 * length d = rw part (omega (arith, opens-room l e o .edges, length-drop (e .edges) l)) in
+        let n : length d ≡ length l - e .edges = ap length part ∙ length-drop (e .edges) l in
+        let some : 0 < e .bits = omega (arith, h, o .bits, ones-le (edgesOf (entryIn l))) in
+        let r : e .bits ≤ 8 * (length d - 8) = omega (arith, n, some, opens-room l e o .blocks, o .blocks, o .edges, o .bits) in
         let b : bitsIn d (e .bits) ≡ edgesOf (entryIn l) = ap (λ x. bitsIn x (e .bits)) part ∙ opens-edges l e o in
         let y : k < ones (bitsIn d (e .bits)) = rw b h in
-        (let z = ones-mono d (e .bits) (8 * length d) r in omega (arith, y, z), select-more d (e .bits) (8 * length d) k r y ∙ ap (λ x. select x k) b)
+        (let z = ones-mono d (e .bits) (8 * (length d - 8)) r in omega (arith, y, z), select-more d (e .bits) (8 * length d) k (omega arith) y ∙ ap (λ x. select x k) b)
+
+    -- from an offset on: the byte of the offset, and its bits before the offset
+    pub behind-is : (from k c : ℕ) → onesBefore (edgesOf (entryIn l)) from + k < ones (edgesOf (entryIn l))
+        → c ≡ ones (bitsIn (drop (from / 8) d) (from % 8)) → (from < e .bits) × (numbered d (from / 8) (c + k) ≡ onesBefore (edgesOf (entryIn l)) from + k)
+    unfolding numbered edgesAt edgeCount
+    behind-is from k c h ec =
+        let x : List Bool = edgesOf (entryIn l) in
+        let z : 8 * (from / 8) + from % 8 ≡ from = omega arith in
+        let lt : from < e .bits = elim (decLe (suc from) (e .bits)) [
+          | yes y ↦ y
+          | no y ↦ absurd (let q = before-all x from (omega (arith, o .bits)) in omega (arith, h, q))
+        ] in
+        let y : onesBefore x from ≡ ones (bitsIn d from) =
+        ap (λ v. onesBefore v from) (sym (opens-edges l e o)) ∙ before-bits (drop (e .edges) l) (e .bits) from (omega arith) ∙ ap (λ v. ones (bitsIn v from)) (sym part) in
+        (lt, omega (arith, y, ec, ap (λ v. ones (bitsIn d v)) z, ones-more d (from / 8) (from % 8)))

@@ -12,7 +12,7 @@ use Rattle.loes.specs.Edges.{ones, onesBefore}
 use Rattle.loes.proofs.Lists.{ones-append}
 use Rattle.loes.proofs.Bytes.{length-tabulate}
 use Rattle.bits.specs.Tables.{select, bits8, placeOf, Places}
-use Rattle.bits.proofs.Counts.{byte-more}
+use Rattle.bits.proofs.Counts.{byte-more, ones-more}
 use Rattle.loes.proofs.Seven.{ones-le}
 use Rattle.loes.proofs.Bits.{length-bitsIn}
 use Rattle.query.specs.Select.{numbered}
@@ -27,6 +27,13 @@ select-at (true ∷ e) zero h = refl
 select-at (true ∷ e) (suc o) h = ap suc (select-at e o h)
 select-at (false ∷ e) zero h = absurd (false≢true h)
 select-at (false ∷ e) (suc o) h = ap suc (select-at e o h)
+
+pub select-le : (e : List Bool) (k : ℕ) → select e k ≤ length e
+unfolding select
+select-le [] k = omega arith
+select-le (true ∷ e) zero = omega arith
+select-le (true ∷ e) (suc k) = omega (arith, select-le e k)
+select-le (false ∷ e) k = omega (arith, select-le e k)
 
 pub select-front : (a b : List Bool) (k : ℕ) → k < ones a → select (a ++ b) k ≡ select a k
 unfolding select ones
@@ -88,3 +95,19 @@ module _ (l : Bytes) (i k : ℕ) where
       (sym (select-more l (8 * (i + 1)) (8 * length l) (ones (bitsIn l (8 * i)) + k) (omega arith) b
       ∙ ap (λ y. select y (ones (bitsIn l (8 * i)) + k)) (bits-byte l i)
       ∙ select-back (bitsIn l (8 * i)) (bits8 (getD l i 0)) k ∙ ap (λ y. y + select (bits8 (getD l i 0)) k) (length-bitsIn l (8 * i))))
+
+-- ---- Eight bytes at a time
+module _ (l : Bytes) (i k : ℕ) where
+  -- with eight bytes behind the one that the search ends in
+  pub in-words : numbered l i k < ones (bitsIn l (8 * (length l - 8))) → i + 8 < length l
+  unfolding numbered
+  in-words h = elim (decLe (suc (i + 8)) (length l)) [
+    | yes y ↦ y
+    | no y ↦ absurd (let z = ones-mono l (8 * (length l - 8)) (8 * i) (omega arith) in omega (arith, z, h))
+  ]
+
+  pub next-word : (c : ℕ) → c ≡ ones (bitsIn (drop i l) 64) → c ≤ k → numbered l (i + 8) (k - c) ≡ numbered l i k
+  unfolding numbered
+  next-word c e h =
+      let z : 8 * (i + 8) ≡ 8 * i + 64 = omega arith in
+      omega (arith, ap (λ n. ones (bitsIn l n)) z, ones-more l i 64, e)

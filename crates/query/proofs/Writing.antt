@@ -36,6 +36,17 @@ byte-more k j e v x h g =
     let z : e + 1 ≡ suc e = omega arith in
     rw (z, h, g) (sym (bitsValue-snoc (tabulate (λ (x : ℕ). getD k (8 * j + x) false) e) (getD k (8 * j + e) false) 0))
 
+-- the bit of an offset
+pub byte-next : (os : List ℕ) (m j e v : ℕ) → 8 * j + e < m → v ≡ upTo (pathKey os m) j e → 2 * v + getD os (8 * j + e) 0 % 2 ≡ upTo (pathKey os m) j (e + 1)
+byte-next os m j e v l h = byte-more (pathKey os m) j e v (getD os (8 * j + e) 0 % 2) h (bit-in os m (8 * j + e) l)
+
+pub byte-first : (os : List ℕ) (m j : ℕ) → 8 * j < m → getD os (8 * j) 0 % 2 ≡ upTo (pathKey os m) j 1
+byte-first os m j l =
+    let z : 8 * j + 0 ≡ 8 * j = omega arith in
+    let h : 2 * 0 + getD os (8 * j + 0) 0 % 2 ≡ upTo (pathKey os m) j 1 = byte-next os m j 0 0 (omega arith) (byte-none (pathKey os m) j) in
+    let q : getD os (8 * j + 0) 0 ≡ getD os (8 * j) 0 = ap (λ i. getD os i 0) z in
+    omega (arith, h, q)
+
 pub byte-all : (k : Key) (j e v : ℕ) → v ≡ upTo k j e → e ≡ 8 → v ≡ byteOf k j
 unfolding upTo byteOf
 byte-all k j e v h z = h ∙ ap (λ x. bitsValue (tabulate (λ (x : ℕ). getD k (8 * j + x) false) x) 0) z

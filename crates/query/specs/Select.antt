@@ -1,8 +1,25 @@
--- Set bits by their number.
-use Prim.Native.Nat.{ℕ, _+_, _*_}
+-- Set bits by their number, and where levels begin.
+use mathlib.Core.Path.{_≡_}
+use Prim.Native.Nat.{ℕ, _+_, _*_, _/_, _<_, _≤_}
+use mathlib.Core.Bool.{Bool}
+use mathlib.Core.List.{List}
+use lib.ListN.{length}
+use Rattle.loes.specs.Limits.{subBlockBits, subBlocks}
 use Rattle.loes.specs.Bytes.{Bytes, bitsIn}
-use Rattle.loes.specs.Edges.{ones}
+use Rattle.loes.specs.Edges.{ones, edgesBefore}
+use Rattle.loes.specs.Entry.{Entry}
+use Rattle.loes.specs.Encode.{subBlockOnes}
 
 -- the number of the set bit that has so many set bits before it from byte `from` on
 unfoldable pub numbered : Bytes → ℕ → ℕ → ℕ
 numbered l from left = ones (bitsIn l (8 * from)) + left
+
+-- of b edges: sub-block j is the last of its block with at most k set bits of the block before it
+abbrev pub LastBy : List Bool → ℕ → ℕ → ℕ → ℕ → Type 0
+LastBy e b block k j =
+    (j / subBlocks ≡ block) × (subBlockBits * j < b) × (subBlockOnes e j ≤ k)
+    × ((j + 1) / subBlocks ≡ block → subBlockBits * (j + 1) < b → k < subBlockOnes e (j + 1))
+
+-- where level d begins: the edge bits of the levels before it
+unfoldable pub levelStart : Entry → ℕ → ℕ
+levelStart e d = length (edgesBefore d (e .width) (e .set))

@@ -18,7 +18,7 @@ ghost use Rattle.bits.specs.Tables.{select, bits8, Tallies, Places};
 ghost use Rattle.encoding.specs.Opened.{Opens};
 ghost use Rattle.query.specs.Descent.{edgeFrom, Way, Located};
 ghost use Rattle.query.specs.Paths.{pathKey};
-ghost use Rattle.query.specs.Select.{numbered};
+ghost use Rattle.query.specs.Select.{numbered, LastBy, levelStart};
 ghost use Rattle.query.specs.Answers.{membershipOutcome, lookupOutcome, boundOutcome, writtenOutcome};
 use bits::EdgeOffset;
 use bits::MemberIndex;
@@ -84,7 +84,7 @@ fn edge_set(l: &[u8], e: Encoding, found: bool, o: EdgeOffset) -> bool
 }
 
 // One level down: one rank.
-fn step_down(l: &[u8], t: &[u16], e: Encoding, at: Spot, bit: bool) -> Spot
+fn step_down(l: &[u8], t: &[u8], e: Encoding, at: Spot, bit: bool) -> Spot
     requires { ⌜ Opens (now l) e × Tallies (now t) × (edgeFrom (at .record .0) (at .found) bit ≤ e .bits) × (at .found ≡ true → edgeFrom (at .record .0) (at .found) bit < e .bits) ⌝ }
     ensures { λ r. ⌜ (r .record .0 ≡ onesBefore (edgesOf (entryIn (now (l .entry)))) (edgeFrom (at .record .0) (at .found) bit) + 1) × (r .found ≡ (at .found && getD (edgesOf (entryIn (now (l .entry)))) (edgeFrom (at .record .0) (at .found) bit) false)) ⌝ }
 {
@@ -99,7 +99,7 @@ fn step_down(l: &[u8], t: &[u16], e: Encoding, at: Spot, bit: bool) -> Spot
 }
 
 // All levels down: the record number that the key has or would have behind the last level.
-fn descend(l: &[u8], t: &[u16], e: Encoding, key: &[u8]) -> Spot
+fn descend(l: &[u8], t: &[u8], e: Encoding, key: &[u8]) -> Spot
     requires { ⌜ Opens (now l) e × Tallies (now t) × (0 < e .bits) × (e .width ≤ 8 * length (now key)) ⌝ }
     ensures { λ r. ⌜ Way (entryIn (now (l .entry))) (now (key .entry)) (e .width) (r .record .0) (r .found) ⌝ }
 {
@@ -122,7 +122,7 @@ pub struct Position {
     pub found: bool,
 }
 
-fn locate(l: &[u8], t: &[u16], e: Encoding, key: &[u8]) -> Position
+fn locate(l: &[u8], t: &[u8], e: Encoding, key: &[u8]) -> Position
     requires { ⌜ Opens (now l) e × Tallies (now t) × (e .width ≤ 8 * length (now key)) ⌝ }
     ensures { λ r. ⌜ Located (entryIn (now (l .entry))) (bitsIn (now (key .entry)) (e .width)) (r .below .0) (r .found) ⌝ }
 {
@@ -161,15 +161,15 @@ const SUB_BLOCKS: usize = Encoding::BLOCK_BITS / Encoding::SUB_BLOCK_BITS;
 const SUB_BLOCK_BYTES: usize = Encoding::SUB_BLOCK_BITS / 8;
 
 // The set bits of a byte.
-fn ones_in(t: &[u16], x: u8) -> usize
+fn ones_in(t: &[u8], x: u8) -> usize
     requires { ⌜ Tallies (now t) ⌝ }
     ensures { λ r. ⌜ r ≡ ones (bits8 x) ⌝ }
 {
-    (t[x as usize] as usize) % bits::EMPTY_RECORD
+    t[x as usize] as usize
 }
 
-// The offset of the set bit that has `left` set bits before it from byte `from` on.
-fn select_from(edges: &[u8], t: &[u16], places: &[u8], from: usize, left: usize) -> EdgeOffset
+// The offset of the set bit that has `left` set bits before it from byte `from` on, byte by byte.
+fn select_in_bytes(edges: &[u8], t: &[u8], places: &[u8], from: usize, left: usize) -> EdgeOffset
     requires { ⌜ Tallies (now t) × Places (now places) × (length (now edges) ≤ maxBytes) × (numbered (now edges) from left < ones (bitsIn (now edges) (8 * length (now edges)))) ⌝ }
     ensures { λ r. ⌜ r .0 ≡ select (bitsIn (now (edges .entry)) (8 * length (now (edges .entry)))) (numbered (now (edges .entry)) from left) ⌝ }
 {
@@ -183,6 +183,22 @@ fn select_from(edges: &[u8], t: &[u16], places: &[u8], from: usize, left: usize)
     }
     let x = edges[i] as usize;
     EdgeOffset(8 * i + (places[8 * x + k] as usize))
+}
+
+// The same as select_in_bytes, eight bytes at a time first: the set bit has eight bytes behind its own.
+fn select_from(edges: &[u8], t: &[u8], places: &[u8], from: usize, left: usize) -> EdgeOffset
+    requires { ⌜ Tallies (now t) × Places (now places) × (length (now edges) ≤ maxBytes) × (numbered (now edges) from left < ones (bitsIn (now edges) (8 * (length (now edges) - 8)))) ⌝ }
+    ensures { λ r. ⌜ r .0 ≡ select (bitsIn (now (edges .entry)) (8 * length (now (edges .entry)))) (numbered (now (edges .entry)) from left) ⌝ }
+{
+    let mut i = from;
+    let mut k = left;
+    let mut c = bits::word_ones(edges, i);
+    while c <= k {
+        k -= c;
+        i += 8;
+        c = bits::word_ones(edges, i);
+    }
+    select_in_bytes(edges, t, places, i, k)
 }
 
 // The last block with at most k set bits before it.
@@ -217,7 +233,7 @@ fn begins_by(l: &[u8], e: Encoding, j: usize, k: usize) -> bool
 // The last sub-block of a block with at most k set bits of the block before it, by halving.
 fn sub_block_of(l: &[u8], e: Encoding, block: usize, k: usize) -> usize
     requires { ⌜ Opens (now l) e × (blockBits * block < e .bits) ⌝ }
-    ensures { λ r. ⌜ (r / subBlocks ≡ block) × (subBlockBits * r < e .bits) × (subBlockOnes (edgesOf (entryIn (now (l .entry)))) r ≤ k) × ((r + 1) / subBlocks ≡ block → subBlockBits * (r + 1) < e .bits → k < subBlockOnes (edgesOf (entryIn (now (l .entry)))) (r + 1)) ⌝ }
+    ensures { λ r. ⌜ LastBy (edgesOf (entryIn (now (l .entry)))) (e .bits) block k r ⌝ }
 {
     let mut low = SUB_BLOCKS * block;
     let mut high = low + SUB_BLOCKS;
@@ -232,34 +248,144 @@ fn sub_block_of(l: &[u8], e: Encoding, block: usize, k: usize) -> usize
     low
 }
 
-// The edge that leads to a record: the set bit of the record's number less 1, by block, sub-block, byte and table.
-fn edge_to(l: &[u8], t: &[u16], places: &[u8], e: Encoding, r: RecordIndex) -> EdgeOffset
+// The same, by a sub-block that may be it or the one behind it, if the entries say so.
+fn sub_block_near(l: &[u8], e: Encoding, block: usize, k: usize, hint: usize) -> usize
+    requires { ⌜ Opens (now l) e × (blockBits * block < e .bits) ⌝ }
+    ensures { λ r. ⌜ LastBy (edgesOf (entryIn (now (l .entry)))) (e .bits) block k r ⌝ }
+{
+    if hint / SUB_BLOCKS != block {
+        return sub_block_of(l, e, block, k);
+    }
+    if begins_by(l, e, hint, k) {
+        if begins_by(l, e, hint + 1, k) {
+            return sub_block_of(l, e, block, k);
+        }
+        return hint;
+    }
+    if hint % SUB_BLOCKS == 0 {
+        return sub_block_of(l, e, block, k);
+    }
+    if begins_by(l, e, hint - 1, k) {
+        return hint - 1;
+    }
+    sub_block_of(l, e, block, k)
+}
+
+// The edge that leads to a record: the set bit of the record's number less 1, by block, sub-block, byte and table. Where the hint is its sub-block, or the one behind that, the search is saved.
+fn edge_to(
+    l: &[u8],
+    t: &[u8],
+    places: &[u8],
+    e: Encoding,
+    r: RecordIndex,
+    hint: usize,
+) -> EdgeOffset
     requires { ⌜ Opens (now l) e × Tallies (now t) × Places (now places) × (0 < r .0) × (r .0 - 1 < ones (edgesOf (entryIn (now l)))) ⌝ }
     ensures { λ x. ⌜ x .0 ≡ select (edgesOf (entryIn (now (l .entry)))) (r .0 - 1) ⌝ }
 {
     let k = r.0 - 1;
     let block = block_of(l, e, k);
     let in_block = k - bits::number8(l, e.blocks + 8 * block);
-    let sub = sub_block_of(l, e, block, in_block);
+    let sub = sub_block_near(l, e, block, in_block, hint);
     let left = in_block - bits::number2(l, e.sub_blocks + 2 * sub);
     let start = e.edges;
     select_from(&l[start..], t, places, SUB_BLOCK_BYTES * sub, left)
 }
 
+// The set bit that has k set bits before it from an offset on.
+fn edge_behind(
+    l: &[u8],
+    t: &[u8],
+    places: &[u8],
+    e: Encoding,
+    from: EdgeOffset,
+    k: usize,
+) -> EdgeOffset
+    requires { ⌜ Opens (now l) e × Tallies (now t) × Places (now places) × (onesBefore (edgesOf (entryIn (now l))) (from .0) + k < ones (edgesOf (entryIn (now l)))) ⌝ }
+    ensures { λ x. ⌜ x .0 ≡ select (edgesOf (entryIn (now (l .entry)))) (onesBefore (edgesOf (entryIn (now (l .entry)))) (from .0) + k) ⌝ }
+{
+    let start = e.edges;
+    let at = from.0 / 8;
+    let x = (l[start + at] as usize) >> (8 - from.0 % 8);
+    let before = t[x] as usize;
+    select_from(&l[start..], t, places, at, before + k)
+}
+
+// So few set bits are counted from the level's start.
+const FEW: usize = 128;
+
+// The edge that leads to a record, which is number k of its level; the edge's level begins at an offset.
+fn edge_up(
+    l: &[u8],
+    t: &[u8],
+    places: &[u8],
+    e: Encoding,
+    r: RecordIndex,
+    from: EdgeOffset,
+    k: usize,
+    hint: usize,
+) -> EdgeOffset
+    requires { ⌜ Opens (now l) e × Tallies (now t) × Places (now places) × (0 < r .0) × (r .0 - 1 < ones (edgesOf (entryIn (now l)))) × (onesBefore (edgesOf (entryIn (now l))) (from .0) + k ≡ r .0 - 1) ⌝ }
+    ensures { λ x. ⌜ x .0 ≡ select (edgesOf (entryIn (now (l .entry)))) (r .0 - 1) ⌝ }
+{
+    if k < FEW {
+        return edge_behind(l, t, places, e, from, k);
+    }
+    edge_to(l, t, places, e, r, hint)
+}
+
+// Where level d begins.
+fn level_start(l: &[u8], e: Encoding, d: usize) -> usize
+    requires { ⌜ Opens (now l) e × (d ≤ e .width) ⌝ }
+    ensures { λ r. ⌜ r ≡ levelStart (entryIn (now (l .entry))) d ⌝ }
+{
+    if d == 0 {
+        return 0;
+    }
+    encoding::level_end(l, e, d - 1)
+}
+
+// Where the next offset might be, as far above as this one is above the last.
+fn guess_from(last: usize, o: usize) -> usize
+    requires { ⌜ o ≤ maxEdges ⌝ }
+{
+    if 2 * o < last {
+        return 0;
+    }
+    2 * o - last
+}
+
 // ---- Paths and their keys
 // The offsets of member i's edges, from the last level up.
-fn path_at(l: &[u8], t: &[u16], places: &[u8], e: Encoding, i: MemberIndex, offsets: &mut [usize])
+fn path_at(l: &[u8], t: &[u8], places: &[u8], e: Encoding, i: MemberIndex, offsets: &mut [usize])
     requires { ⌜ Opens (now l) e × Tallies (now t) × Places (now places) × (i .0 < e .count) × (e .width ≤ length (now offsets)) ⌝ }
     ensures { λ _. ⌜ now (offsets .exit) ≡ front (pathOf (entryIn (now (l .entry))) (getD (keysOf (entryIn (now (l .entry)))) (i .0) [])) (now (offsets .entry)) ⌝ }
 {
     let n = i.0;
     let mut r = e.bits / 2 + n;
     let mut d = e.width;
+    let mut end = e.bits;
+    let mut last = e.bits;
+    let mut guess = e.bits;
     while 0 < d {
         d -= 1;
-        let o = edge_to(l, t, places, e, RecordIndex(r));
+        let start = level_start(l, e, d);
+        let k = r - end / 2;
+        let o = edge_up(
+            l,
+            t,
+            places,
+            e,
+            RecordIndex(r),
+            EdgeOffset(start),
+            k,
+            guess / Encoding::SUB_BLOCK_BITS,
+        );
         let q = o.0;
         offsets[d] = q;
+        guess = guess_from(last, q);
+        last = q;
+        end = start;
         r = q / 2;
     }
 }
@@ -275,8 +401,8 @@ fn key_bit(offsets: &[usize], m: usize, q: usize) -> usize
     0
 }
 
-// Byte j of the key of a path; a key has fewer bytes than it may have bits.
-fn key_byte(offsets: &[usize], m: usize, j: usize) -> u8
+// Byte j of the key of a path, bit by bit; a key has fewer bytes than it may have bits.
+fn part_byte(offsets: &[usize], m: usize, j: usize) -> u8
     requires { ⌜ (m ≤ length (now offsets)) × (j < maxWidth) ⌝ }
     ensures { λ r. ⌜ r ≡ byteOf (pathKey (now (offsets .entry)) m) j ⌝ }
 {
@@ -288,6 +414,34 @@ fn key_byte(offsets: &[usize], m: usize, j: usize) -> u8
         e += 1;
     }
     v as u8
+}
+
+// The same for a byte whose bits are all of the key.
+fn whole_byte(offsets: &[usize], m: usize, j: usize) -> u8
+    requires { ⌜ (m ≤ length (now offsets)) × (8 * j + 8 ≤ m) × (j < maxWidth) ⌝ }
+    ensures { λ r. ⌜ r ≡ byteOf (pathKey (now (offsets .entry)) m) j ⌝ }
+{
+    let at = 8 * j;
+    let a = offsets[at] % 2;
+    let b = 2 * a + offsets[at + 1] % 2;
+    let c = 2 * b + offsets[at + 2] % 2;
+    let d = 2 * c + offsets[at + 3] % 2;
+    let e = 2 * d + offsets[at + 4] % 2;
+    let f = 2 * e + offsets[at + 5] % 2;
+    let g = 2 * f + offsets[at + 6] % 2;
+    let h = 2 * g + offsets[at + 7] % 2;
+    h as u8
+}
+
+// Byte j of the key of a path.
+fn key_byte(offsets: &[usize], m: usize, j: usize) -> u8
+    requires { ⌜ (m ≤ length (now offsets)) × (j < maxWidth) ⌝ }
+    ensures { λ r. ⌜ r ≡ byteOf (pathKey (now (offsets .entry)) m) j ⌝ }
+{
+    if 8 * j + 8 <= m {
+        return whole_byte(offsets, m, j);
+    }
+    part_byte(offsets, m, j)
 }
 
 // Writes the key of a path to the front of a buffer.
@@ -313,7 +467,7 @@ fn room() -> [usize; Encoding::MAX_WIDTH]
 
 // ---- Questions behind the check
 // Whether a key is a member.
-pub fn contains_in(l: &[u8], t: &[u16], e: Encoding, key: &[u8]) -> Membership
+pub fn contains_in(l: &[u8], t: &[u8], e: Encoding, key: &[u8]) -> Membership
     requires { ⌜ Opens (now l) e × Tallies (now t) ⌝ }
     ensures { λ r. ⌜ membershipOutcome r ≡ contains (entryIn (now (l .entry))) (now (key .entry)) .outcome ⌝ }
 {
@@ -328,7 +482,7 @@ pub fn contains_in(l: &[u8], t: &[u16], e: Encoding, key: &[u8]) -> Membership
 }
 
 // A key's index among the members, or that it is none.
-pub fn index_of_in(l: &[u8], t: &[u16], e: Encoding, key: &[u8]) -> Lookup
+pub fn index_of_in(l: &[u8], t: &[u8], e: Encoding, key: &[u8]) -> Lookup
     requires { ⌜ Opens (now l) e × Tallies (now t) ⌝ }
     ensures { λ r. ⌜ lookupOutcome r ≡ indexOf (entryIn (now (l .entry))) (now (key .entry)) .outcome ⌝ }
 {
@@ -344,7 +498,7 @@ pub fn index_of_in(l: &[u8], t: &[u16], e: Encoding, key: &[u8]) -> Lookup
 }
 
 // The index of the smallest member not below a key, or that there is none.
-pub fn lower_bound_in(l: &[u8], t: &[u16], e: Encoding, key: &[u8]) -> Bound
+pub fn lower_bound_in(l: &[u8], t: &[u8], e: Encoding, key: &[u8]) -> Bound
     requires { ⌜ Opens (now l) e × Tallies (now t) ⌝ }
     ensures { λ r. ⌜ boundOutcome r ≡ lowerBound (entryIn (now (l .entry))) (now (key .entry)) .outcome ⌝ }
 {
@@ -362,7 +516,7 @@ pub fn lower_bound_in(l: &[u8], t: &[u16], e: Encoding, key: &[u8]) -> Bound
 // Writes the member at an index to the front of a buffer.
 pub fn key_at_in(
     l: &[u8],
-    t: &[u16],
+    t: &[u8],
     places: &[u8],
     e: Encoding,
     i: MemberIndex,

@@ -1,32 +1,122 @@
 use denote.Ref.{now}
+use mathlib.Core.Path.{sym, ap, _∙_}
+use Prim.Native.Nat.{_+_, _*_, _^_}
 use native.Mathlib.Omega.{arith}
-use Rattle.bits.proofs.Halves.{halves}
+use lib.Pow.{shl-exact}
+use Rattle.bits.proofs.Halves.{one-byte, number-next, number-last}
+use Rattle.bits.proofs.Words.{Small}
 use borrow.Author.Needs.{needs}
 use Rattle.bits.proofs.number8.Statement.{statement}
 use Rattle.bits.proofs.number8.Tie as tie
 
-number4-requires : tie.Need-number4-requires
-number4-requires c κs = search needs
+shared-slice-read-result : tie.Need-shared-slice-read-result
+shared-slice-read-result c = search needs
 
-mul-result : tie.Need-mul-result
-mul-result c = search needs
-
-add-number4 : tie.Need-add-number4
-add-number4 c = search needs
-
-number4-requires-2 : tie.Need-number4-requires-2
-number4-requires-2 c κs = search needs
+cast-result : tie.Need-cast-result
+cast-result c = omega (arith, c .shared-slice-known .given (c .before .args .at))
 
 add-result : tie.Need-add-result
 add-result c = search needs
 
+shared-slice-read-result-2 : tie.Need-shared-slice-read-result-2
+shared-slice-read-result-2 c = search needs
+
+cast-result-2 : tie.Need-cast-result-2
+cast-result-2 c = omega (arith, c .shared-slice-known2 .given (c .before .before .args .at + 1))
+
+add-result-2 : tie.Need-add-result-2
+add-result-2 c = search needs
+
+shared-slice-read-result-3 : tie.Need-shared-slice-read-result-3
+shared-slice-read-result-3 c = search needs
+
+cast-result-3 : tie.Need-cast-result-3
+cast-result-3 c = omega (arith, c .shared-slice-known3 .given (c .before .before .before .args .at + 2))
+
+add-result-3 : tie.Need-add-result-3
+add-result-3 c = search needs
+
+shared-slice-read-result-4 : tie.Need-shared-slice-read-result-4
+shared-slice-read-result-4 c = search needs
+
+cast-result-4 : tie.Need-cast-result-4
+cast-result-4 c = omega (arith, c .shared-slice-known4 .given (c .before .before .before .before .args .at + 3))
+
+add-result-4 : tie.Need-add-result-4
+add-result-4 c = search needs
+
+shared-slice-read-result-5 : tie.Need-shared-slice-read-result-5
+shared-slice-read-result-5 c = search needs
+
+cast-result-5 : tie.Need-cast-result-5
+cast-result-5 c = omega (arith, c .shared-slice-known5 .given (c .before .before .before .before .before .args .at + 4))
+
+add-result-5 : tie.Need-add-result-5
+add-result-5 c = search needs
+
+shared-slice-read-result-6 : tie.Need-shared-slice-read-result-6
+shared-slice-read-result-6 c = search needs
+
+cast-result-6 : tie.Need-cast-result-6
+cast-result-6 c = omega (arith, c .shared-slice-known6 .given (c .before .before .before .before .before .before .args .at + 5))
+
+add-result-6 : tie.Need-add-result-6
+add-result-6 c = search needs
+
+shared-slice-read-result-7 : tie.Need-shared-slice-read-result-7
+shared-slice-read-result-7 c = search needs
+
+cast-result-7 : tie.Need-cast-result-7
+cast-result-7 c = omega (arith, c .shared-slice-known7 .given (c .before .before .before .before .before .before .before .args .at + 6))
+
+add-result-7 : tie.Need-add-result-7
+add-result-7 c = search needs
+
+shared-slice-read-result-8 : tie.Need-shared-slice-read-result-8
+shared-slice-read-result-8 c = search needs
+
+cast-result-8 : tie.Need-cast-result-8
+cast-result-8 c = omega (arith, c .shared-slice-known8 .given (c .before .before .before .before .before .before .before .before .args .at + 7))
+
 returns : tie.Need-returns
 returns c =
-    let s = c .before .before .before in
-    let n = halves 4 (now (s .args .l)) (s .args .at) (s .pre) in
-    omega (arith, n)
+    let a = c .before .before .before .before .before .before .before .before .args in
+    let l = now (a .l) in
+    let s : Small l = λ i. c .shared-slice-known8 .given i .fits in
+    let first = shl-exact 8 56 64 (s (a .at)) (omega arith) ∙ ap (λ v. v * 2 ^ 56) (sym (one-byte l (a .at) (omega arith))) in
+    number-last l (a .at) (omega arith) (s _)
+    (number-next l (a .at) 6 (omega arith) (omega arith) (s _)
+    (number-next l (a .at) 5 (omega arith) (omega arith) (s _)
+    (number-next l (a .at) 4 (omega arith) (omega arith) (s _)
+    (number-next l (a .at) 3 (omega arith) (omega arith) (s _)
+    (number-next l (a .at) 2 (omega arith) (omega arith) (s _)
+    (number-next l (a .at) 1 (omega arith) (omega arith) (s _) first))))))
 
 pub number8-spec : {M : Type 1} → statement M
 number8-spec =
     tie.close
-    (tie.spec number4-requires mul-result add-number4 number4-requires-2 add-result returns)
+    (tie.spec
+    shared-slice-read-result
+    cast-result
+    add-result
+    shared-slice-read-result-2
+    cast-result-2
+    add-result-2
+    shared-slice-read-result-3
+    cast-result-3
+    add-result-3
+    shared-slice-read-result-4
+    cast-result-4
+    add-result-4
+    shared-slice-read-result-5
+    cast-result-5
+    add-result-5
+    shared-slice-read-result-6
+    cast-result-6
+    add-result-6
+    shared-slice-read-result-7
+    cast-result-7
+    add-result-7
+    shared-slice-read-result-8
+    cast-result-8
+    returns)

@@ -7,7 +7,6 @@ use lib.ListN.{drop, getD}
 use Rattle.loes.specs.Bytes.{Bytes, bitsIn}
 use Rattle.loes.specs.Edges.{ones}
 use Rattle.bits.proofs.Counts.{ones-more, part-ones, shift-small, ones-bits-le}
-use Rattle.bits.proofs.Tally.{byte-tally}
 use Rattle.build.proofs.ones_at.Statement.{statement}
 use Rattle.build.proofs.ones_at.Tie as tie
 
@@ -27,11 +26,11 @@ shifted c = byte c / 2 ^ (8 - start c .args .o % 8)
 part-small : (c : tie.After-shared-slice-known) → shifted c < 256
 part-small c = shift-small (byte c) (8 - start c .args .o % 8) (small c)
 
-entry : (c : tie.After-shared-slice-known2) → getD (now (start (c .before) .args .t)) (shifted (c .before)) 0 % 1024
+entry : (c : tie.After-shared-slice-known2) → getD (now (start (c .before) .args .t)) (shifted (c .before)) 0
     ≡ ones (bitsIn (drop (start (c .before) .args .o / 8) (now (start (c .before) .args .edges))) (start (c .before) .args .o % 8))
 entry c =
     let s = start (c .before) in
-    ap (λ x. x % 1024) (s .pre .1 .rule (shifted (c .before)) (part-small (c .before))) ∙ byte-tally (shifted (c .before))
+    s .pre .1 .rule (shifted (c .before)) (part-small (c .before))
     ∙ part-ones (now (s .args .edges)) (s .args .o / 8) (s .args .o % 8) (small (c .before)) (omega arith)
 
 -- the offset is behind its byte's front
@@ -56,9 +55,6 @@ sub-result c = search needs
 shr-result : tie.Need-shr-result
 shr-result c = search needs
 
-mul-result : tie.Need-mul-result
-mul-result c = omega (arith, part-small c)
-
 shared-slice-read-result : tie.Need-shared-slice-read-result
 shared-slice-read-result c = omega (arith, part-small (c .before), start (c .before) .pre .1 .size)
 
@@ -68,7 +64,7 @@ cast-result c = omega (arith, c .shared-slice-known2 .given (shifted (c .before)
 add-result : tie.Need-add-result
 add-result c =
     let s = start (c .before .before) in
-    omega (arith, s .pre .0, ones-bits-le (now (s .args .edges)) (8 * s .args .s .bytes))
+    omega (arith, c .before .shared-slice-known2 .given (shifted (c .before .before)), s .pre .0, ones-bits-le (now (s .args .edges)) (8 * s .args .s .bytes))
 
 returns-2 : tie.Need-returns-2
 returns-2 c =
@@ -86,7 +82,6 @@ ones-at-spec =
     cast-x
     sub-result
     shr-result
-    mul-result
     shared-slice-read-result
     cast-result
     add-result

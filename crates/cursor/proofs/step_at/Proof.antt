@@ -5,7 +5,7 @@ use Rattle.loes.specs.Entry.{keyBytes, Valid}
 use Rattle.loes.specs.Read.{entryIn}
 use Rattle.loes.proofs.Cursors.{right-parts}
 use Rattle.encoding.proofs.Opened.{opens-valid, opens-room}
-use Rattle.cursor.proofs.Stepping.{positive, at-below, at-last, at-short, at-movable, at-next}
+use Rattle.cursor.proofs.Stepping.{positive, at-set, at-last, at-short, at-movable, at-next}
 use borrow.Author.Needs.{needs}
 use Rattle.cursor.proofs.step_at.Statement.{statement}
 use Rattle.cursor.proofs.step_at.Tie as tie
@@ -14,7 +14,7 @@ valid : (s : tie.Start) → Valid (entryIn (now (s .args .l)))
 valid s = opens-valid _ _ (s .pre .0)
 
 turn-level-requires : tie.Need-turn-level-requires
-turn-level-requires c κs = let s = c .before .before .before .before in let z = at-below _ (valid s) _ (s .pre .1) _ _ (s .pre .0 .width) (s .pre .0 .bits) in (s .pre .0, z .0, z .1)
+turn-level-requires c κs = let s = c .before .before .before .before in let z = at-set _ (valid s) _ (s .pre .1) _ _ (s .pre .0 .width) (s .pre .0 .bits) in (s .pre .0, z .0, z .1)
 
 clear-requires : tie.Need-clear-requires
 clear-requires c κs = search needs

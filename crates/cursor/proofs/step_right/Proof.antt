@@ -16,17 +16,11 @@ step-at-requires c κs = let s = c .before .before .before .before .before .befo
 enum-told-2 : tie.Need-enum-told-2
 enum-told-2 c = search needs
 
-tallies-requires : tie.Need-tallies-requires
-tallies-requires c κs = search needs
-
-slice-aggregate-step-before : tie.Need-slice-aggregate-step-before
-slice-aggregate-step-before c = search needs
-
 step-before-requires : tie.Need-step-before-requires
 unfolding padded
 step-before-requires c κs =
-    let s = c .before .before .before .before .before .before .before .before .before in
-    (s .pre .0, c .before .before .before .tallies .ensures, right-before (entryIn (now (s .args .l))) _ (state-right (entryIn (now (s .args .l))) _ _ _ (c .before .before .before .before .enum-told2 .given .1) (s .pre .1)))
+    let s = c .before .before .before .before .before .before .before in
+    (s .pre .0, right-before (entryIn (now (s .args .l))) _ (state-right (entryIn (now (s .args .l))) _ _ _ (c .before .before .enum-told2 .given .1) (s .pre .1)))
 
 enum-told-3 : tie.Need-enum-told-3
 enum-told-3 c = search needs
@@ -47,7 +41,7 @@ same-length-4 : tie.Need-same-length-4
 same-length-4 c = search needs
 
 returns-2 : tie.Need-returns-2
-returns-2 c = step-in _ _ _ _ _ _ (c .before .before .before .before .before .before .before .before .before .enum-told2 .given .1) (c .before .before .before .before .step-before .ensures)
+returns-2 c = step-in _ _ _ _ _ _ (c .before .before .before .before .before .before .before .enum-told2 .given .1) (c .before .before .before .before .step-before .ensures)
 
 returns-3 : tie.Need-returns-3
 returns-3 c = let s = c .before .before .before .before .before in let t = c .enum-told3 .given .1 in step-in _ _ _ _ _ _ t (after-stays _ _ _ (state-right _ _ _ _ t (s .pre .1)))
@@ -59,8 +53,6 @@ step-right-spec =
     enum-told
     step-at-requires
     enum-told-2
-    tallies-requires
-    slice-aggregate-step-before
     step-before-requires
     enum-told-3
     same-length

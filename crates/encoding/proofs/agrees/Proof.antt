@@ -61,7 +61,7 @@ few c =
     )
 
 whole-ones-requires : tie.Need-whole-ones-requires
-whole-ones-requires c κs = let s = c .before .before in (room s, s .pre .1)
+whole-ones-requires c κs = room (c .before .before)
 
 enum-known-n : tie.Need-enum-known-n
 enum-known-n c = search needs
@@ -75,7 +75,7 @@ returns c =
     wrong (start w) (bytes w) (λ r. subst (Whole _ _) (c .enum-told .given .1) (w .whole-ones .ensures) (whole-of _ _ (start w .pre .0) r))
 
 last-ones-requires : tie.Need-last-ones-requires
-last-ones-requires c κs = let s = first (c .before) in (room s, s .pre .1)
+last-ones-requires c κs = room (first (c .before))
 
 enum-known-k : tie.Need-enum-known-k
 enum-known-k c = search needs

@@ -106,10 +106,7 @@ add-result : tie.Need-add-result
 add-result c = omega (arith, block-le c)
 
 add-result-2 : tie.Need-add-result-2
-add-result-2 c = omega (arith, block-le c)
-
-mul-result : tie.Need-mul-result
-mul-result c = omega (arith, shift-small (byte c) (7 - last (else1 c) % 8) (small c))
+add-result-2 c = omega (arith, block-le c, c .before .tally-bytes .ensures .1)
 
 shared-slice-read-result : tie.Need-shared-slice-read-result
 shared-slice-read-result c = omega (arith, shift-small (byte (c .before)) (7 - last (else1 (c .before)) % 8) (small (c .before)), start (else1 (c .before)) .pre .2 .size)
@@ -118,7 +115,7 @@ cast-result : tie.Need-cast-result
 cast-result c = omega (arith, c .shared-slice-known4 .given (byte (c .before) / 2 ^ (7 - last (else1 (c .before)) % 8)))
 
 add-result-3 : tie.Need-add-result-3
-add-result-3 c = omega (arith, block-le (c .before))
+add-result-3 c = let d = c .before in omega (arith, block-le d, d .before .tally-bytes .ensures .1, c .shared-slice-known4 .given (byte d / 2 ^ (7 - last (else1 d) % 8)))
 
 returns-2 : tie.Need-returns-2
 returns-2 c =
@@ -127,7 +124,7 @@ returns-2 c =
     let x = byte d / 2 ^ (7 - last (else1 d) % 8) in
     ones-by-index (now (s .args .l)) (s .args .e) (s .args .o .0) _ _ _ _ (positive (else1 d)) (s .pre .3) (block-is d)
     (d .before .before .before .number2 .ensures .0 ∙ s .pre .1 .sub-blocks (last (else1 d) / 512) (omega (arith, positive (else1 d))))
-    (d .before .tally-bytes .ensures) (small d) (s .pre .2 .rule x (shift-small (byte d) (7 - last (else1 d) % 8) (small d)))
+    (d .before .tally-bytes .ensures .0) (small d) (s .pre .2 .rule x (shift-small (byte d) (7 - last (else1 d) % 8) (small d)))
 
 pub indexed-ones-spec : {M : Type 1} → statement M
 indexed-ones-spec =
@@ -151,7 +148,6 @@ indexed-ones-spec =
     shr-x
     add-result
     add-result-2
-    mul-result
     shared-slice-read-result
     cast-result
     add-result-3

@@ -4,11 +4,12 @@ use Prim.Native.Nat.{ℕ, _+_, _/_, _≤_}
 use mathlib.Core.List.{List}
 use native.Mathlib.Omega.{arith}
 use denote.Ref.{now}
+use lib.ListN.{length}
 use lib.Seq.{length-take-le}
 use Rattle.loes.specs.Bytes.{started}
 use Rattle.pack.specs.Packing.{Planned, BatchEdges}
 use Rattle.pack.specs.declared.Checked.the-variants.{Accepted}
-use Rattle.pack.proofs.Plans.{few-edges, made}
+use Rattle.pack.proofs.Plans.{few-edges, room-for, made}
 use Rattle.pack.proofs.batch_edges.Statement.{statement}
 use Rattle.pack.proofs.batch_edges.Tie as tie
 
@@ -31,6 +32,9 @@ module _ (k : tie.After-known-told) where
 
   few : bits ≤ 524280
   few = few-edges (start .args .m) (now (start .args .batch)) levels bits planned
+
+  room : (bits + 7) / 8 ≤ length (now (start .args .edges))
+  room = omega (arith, start .pre, room-for (start .args .m) (now (start .args .batch)) bits (planned .0 .accepted) (planned .1))
 
 no-records-requires : tie.Need-no-records-requires
 no-records-requires c κs = search needs
@@ -62,12 +66,12 @@ slice-aggregate-fill : tie.Need-slice-aggregate-fill
 slice-aggregate-fill c = search needs
 
 slice-relend-prefix-fill : tie.Need-slice-relend-prefix-fill
-slice-relend-prefix-fill c = omega (arith, few (c .before), start (c .before) .pre)
+slice-relend-prefix-fill c = room (c .before)
 
 slice-aggregate-fill-2 : tie.Need-slice-aggregate-fill-2
 slice-aggregate-fill-2 c =
     let k = c .before .before in
-    sym (length-take-le ((bits k + 7) / 8) (now (start k .args .edges)) (omega (arith, few k, start k .pre)))
+    sym (length-take-le ((bits k + 7) / 8) (now (start k .args .edges)) (room k))
 
 fill-requires : tie.Need-fill-requires
 unfolding started
@@ -77,7 +81,7 @@ fill-requires c κs =
     record {
       ready = planned k .0;
       long = planning k .plan .kept .1 .1 .0 ∙ planning k .before .before .no-records .ensures .long;
-      room = rw (← planned k .1) (length-take-le ((bits k + 7) / 8) e (omega (arith, few k, start k .pre)));
+      room = rw (← planned k .1) (length-take-le ((bits k + 7) / 8) e (room k));
     }
 
 same-length : tie.Need-same-length

@@ -13,6 +13,8 @@ use Rattle.pack.specs.declared.Checked.the-variants.{Accepted}
 use Rattle.pack.specs.Rising.{firstNew}
 use Rattle.pack.specs.Batch.{key, testsBelow, KeyChecked}
 use Rattle.pack.proofs.Places.{key-there, few-keys}
+use Rattle.pack.specs.Marking.{running}
+use Rattle.pack.proofs.Sums.{running-zero, noted-le}
 use Rattle.pack.proofs.Turn.{Counted, none-yet, counted-le, counted-more}
 use Rattle.pack.proofs.KeyTests.{none-tested, one-more, first-refused, rising}
 use Rattle.pack.proofs.count_records.Statement.{statement}
@@ -20,7 +22,7 @@ use Rattle.pack.proofs.count_records.Tie as tie
 
 abbrev Inv-loop : tie.InvT-loop
 Inv-loop batch n t m counts₀ i₀ counts i =
-    (i ≤ n) × (length counts ≡ length counts₀) × (firstOf (testsBelow m batch i) ≡ none) × Counted m (λ (e : ℕ). 0) (key m batch) i counts
+    (i ≤ n) × (length counts ≡ length counts₀) × (firstOf (testsBelow m batch i) ≡ none) × Counted m (λ (e : ℕ). 0) (key m batch) i (running counts m)
 
 abbrev μ-loop : tie.MeasureT-loop
 μ-loop batch n t m counts₀ i₀ counts i = n - i
@@ -48,7 +50,7 @@ module _ (w : tie.In-loop Inv-loop μ-loop) where
 loop-holds : tie.Need-loop-holds Inv-loop μ-loop
 loop-holds c =
     let s = c .before .before in
-    (omega arith, refl, none-tested (s .args .m) (now (s .args .batch)), none-yet (s .args .m) (λ e. 0) (key (s .args .m) (now (s .args .batch))) (now (s .args .counts)) (s .pre .zero))
+    (omega arith, refl, none-tested (s .args .m) (now (s .args .batch)), none-yet (s .args .m) (λ e. 0) (key (s .args .m) (now (s .args .batch))) (running (now (s .args .counts)) (s .args .m)) (running-zero (now (s .args .counts)) (s .args .m) (s .pre .zero)))
 
 check-key-requires : tie.Need-check-key-requires Inv-loop μ-loop
 check-key-requires c κs = let s = start c in key-there (s .args .m) (s .args .t) (s .args .n) (bytes c) (s .pre .batch) (at c) (c .loop-test .taken)
@@ -69,8 +71,8 @@ returns c =
 enum-known-checked-2 : tie.Need-enum-known-checked-2 Inv-loop μ-loop
 enum-known-checked-2 c = search needs
 
-bump-requires : tie.Need-bump-requires Inv-loop μ-loop
-bump-requires c κs =
+note-requires : tie.Need-note-requires Inv-loop μ-loop
+note-requires c κs =
     let w = c .before .before .before .before .before in
     let h = w .before in
     let s = start w in (
@@ -80,7 +82,8 @@ bump-requires c κs =
             arith,
             s .good,
             few-keys (s .args .m) (s .args .t) (s .args .n) (bytes w) (s .pre .batch),
-            counted-le (s .args .m) (at w) (λ x. 0) (key (s .args .m) (bytes w)) (rising (s .args .m) (bytes w) (at w) (passed w)) (at w) (h .loop .counts) (omega arith) (h .loop .inv .3) e l,
+            counted-le (s .args .m) (at w) (λ x. 0) (key (s .args .m) (bytes w)) (rising (s .args .m) (bytes w) (at w) (passed w)) (at w) (running (h .loop .counts) (s .args .m)) (omega arith) (h .loop .inv .3) e l,
+            noted-le (h .loop .counts) (s .args .m) e l,
             w .loop-test .taken,
           ),
     )
@@ -100,9 +103,9 @@ loop-again c =
     let s = start w in
     let p = passes w (k .check-key .result) (d .checked2 .given .0 .0) (k .check-key .ensures) (d .checked2 .given .1) in (
       omega (arith, w .loop-test .taken),
-      b .bump .kept .0 ∙ w .before .loop .inv .1,
+      b .note .kept .0 ∙ w .before .loop .inv .1,
       rw (add-one (at w)) (p .0),
-      counted-more (s .args .m) (suc (at w)) (λ x. 0) (key (s .args .m) (bytes w)) (rising (s .args .m) (bytes w) (suc (at w)) (p .0)) (at w) (d .checked2 .given .0 .0) (w .before .loop .counts) (b .bump .last .0) (omega arith) (p .1) (b .bump .ensures) (w .before .loop .inv .3),
+      counted-more (s .args .m) (suc (at w)) (λ x. 0) (key (s .args .m) (bytes w)) (rising (s .args .m) (bytes w) (suc (at w)) (p .0)) (at w) (d .checked2 .given .0 .0) (running (w .before .loop .counts) (s .args .m)) (running (b .note .last .0) (s .args .m)) (omega arith) (p .1) (b .note .ensures) (w .before .loop .inv .3),
     )
 
 same-length-2 : tie.Need-same-length-2 Inv-loop μ-loop
@@ -126,7 +129,7 @@ count-records-spec =
     same-length
     returns
     enum-known-checked-2
-    bump-requires
+    note-requires
     add-i
     loop-less
     loop-again

@@ -88,6 +88,7 @@ mark-key-requires c κs =
     let w = g .before in
     let s = start w in
     room-mark (m w) (n w) (f w) (s .pre .rising) (i w) (g .first-new .result) (head w .loop .cursors) (w .loop-test .taken) (head w .loop .inv .3) (g .first-new .ensures) _ (head w .loop .edges)
+    (key-lent (m w) (s .args .t) (i w) (bytes w) (there w))
     (omega (arith, room w, s .pre .batch .size, length-lent (bytes w) (s .args .t * i w)))
     (omega (arith, s .pre .long, head w .loop .inv .1)) (s .pre .few) (long w)
 

@@ -10,6 +10,7 @@ use Rattle.loes.specs.Model.{refusal}
 use Rattle.loes.specs.Calls.{packCall}
 use Rattle.build.specs.Writing.{writtenOutcome}
 use Rattle.pack.specs.Packing.{Made, BatchEdges}
+use Rattle.pack.proofs.Plans.{room-for}
 use Rattle.pack.proofs.Calls.{pack-refused}
 use Rattle.pack.proofs.Written.{made-sealed, made-call}
 use Rattle.pack.proofs.pack_with.Statement.{statement}
@@ -36,7 +37,7 @@ module _ (k : tie.After-known-told2) where
   few = made-sealed (start .args .m) (now (start .args .batch)) (now (start .args .edges)) edges bits made .holds .few
 
   room : (bits + 7) / 8 ≤ length edges
-  room = omega (arith, few, making .batch-edges .kept .1 .1 .0, start .pre .0)
+  room = omega (arith, room-for (start .args .m) (now (start .args .batch)) bits (made .accepted) (made .count), making .batch-edges .kept .1 .1 .0, start .pre .0)
 
 batch-edges-requires : tie.Need-batch-edges-requires
 batch-edges-requires c κs = search needs

@@ -9,6 +9,7 @@ use lib.ListN.{length}
 use Rattle.loes.specs.Bytes.{Bytes, started}
 use Rattle.loes.specs.Entry.{keyBytes}
 use Rattle.pack.specs.Batch.{RecordsCounted}
+use Rattle.pack.specs.Marking.{running}
 use Rattle.pack.specs.declared.Checked.the-variants.{Accepted}
 use Rattle.pack.proofs.Batches.{keys, bad-width, ragged, batch-is, key-refused}
 use Rattle.pack.proofs.Plans.{few-records, plan-over, plan-ready}
@@ -48,7 +49,7 @@ module _ (t : tie.After-enum-told) where
   else2 = else3 .before
 
   abbrev counts : List ℕ
-  counts = counting .count-records .last .1 .1 .1 .1 .0
+  counts = running (counting .count-records .last .1 .1 .1 .1 .0) (m else2)
 
   told : RecordsCounted (m else2) (keys (m else2) (l else2)) (l else2) counts (Accepted (t .enum-told .given .0 .0))
   unfolding keyBytes started
@@ -97,7 +98,7 @@ returns-4 c =
     let e = k .before .before in
     let d = e .before in
     key-refused (m d) (l d) (positive d) (narrow d) (even e) (c .before .counted .given .0 .0)
-    (subst (RecordsCounted (m d) (keys (m d) (l d)) (l d) (k .count-records .last .1 .1 .1 .1 .0)) (c .before .counted .given .1) (k .count-records .ensures))
+    (subst (RecordsCounted (m d) (keys (m d) (l d)) (l d) (running (k .count-records .last .1 .1 .1 .1 .0) (m d))) (c .before .counted .given .1) (k .count-records .ensures))
 
 enum-told : tie.Need-enum-told
 enum-told c = search needs

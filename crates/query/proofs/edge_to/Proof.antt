@@ -3,7 +3,6 @@ use Rattle.loes.specs.Encode.{blockOnes, subBlockOnes}
 use Rattle.loes.proofs.Seven.{ones-le}
 use Rattle.query.specs.Select.{numbered}
 use lib.ListN.{length, take, drop, length-drop}
-use lib.Seq.{take-all}
 use Prim.Native.Nat.{_-_}
 use mathlib.Core.Path.{_≡_, _∙_}
 use native.Mathlib.Omega.{arith}
@@ -12,13 +11,13 @@ use Prim.Native.Nat.{_<_}
 use Rattle.loes.specs.Entry.{edgesOf, edgeCount}
 use Rattle.loes.specs.Read.{entryIn}
 use Rattle.encoding.proofs.Opened.{opens-room}
-use Rattle.query.proofs.Index.{block-at, sub-block-at, start-is, select-is}
+use Rattle.query.proofs.Index.{part-is, block-at, sub-block-at, start-is, select-is}
 use borrow.Author.Needs.{needs}
 use Rattle.query.proofs.edge_to.Statement.{statement}
 use Rattle.query.proofs.edge_to.Tie as tie
 
 part : (s : tie.Start) → take (length (now (s .args .l)) - s .args .e .edges) (drop (s .args .e .edges) (now (s .args .l))) ≡ drop (s .args .e .edges) (now (s .args .l))
-part s = take-all (length (now (s .args .l)) - s .args .e .edges) (drop (s .args .e .edges) (now (s .args .l))) (omega (arith, length-drop (s .args .e .edges) (now (s .args .l))))
+part s = part-is (now (s .args .l)) (s .args .e .edges)
 
 abbrev start : tie.After-number2 → tie.Start
 start c = c .before .before .before .before .before .before .before .before .before .before
@@ -45,17 +44,17 @@ number8-requires c κs = let s = c .before .before .before .before .before .befo
 sub-in-block : tie.Need-sub-in-block
 sub-in-block c = let s = c .before .before .before .before .before .before .before in let q = c .before .before .block-of .ensures in omega (arith, c .number8 .ensures, block-at _ _ (s .pre .0) _ (q .0) .1, q .1)
 
-sub-block-of-requires : tie.Need-sub-block-of-requires
-sub-block-of-requires c κs = search needs
+sub-block-near-requires : tie.Need-sub-block-near-requires
+sub-block-near-requires c κs = search needs
 
 mul-number2 : tie.Need-mul-number2
 mul-number2 c = search needs
 
 add-number2 : tie.Need-add-number2
-add-number2 c = let s = c .before .before .before .before .before .before .before .before .before in omega (arith, sub-block-at _ _ (s .pre .0) _ (c .before .sub-block-of .ensures .1) .0, opens-room _ _ (s .pre .0) .bytes)
+add-number2 c = let s = c .before .before .before .before .before .before .before .before .before in omega (arith, sub-block-at _ _ (s .pre .0) _ (c .before .sub-block-near .ensures .1) .0, opens-room _ _ (s .pre .0) .bytes)
 
 number2-requires : tie.Need-number2-requires
-number2-requires c κs = let s = c .before .before .before .before .before .before .before .before .before in sub-block-at _ _ (s .pre .0) _ (c .before .sub-block-of .ensures .1) .0
+number2-requires c κs = let s = c .before .before .before .before .before .before .before .before .before in sub-block-at _ _ (s .pre .0) _ (c .before .sub-block-near .ensures .1) .0
 
 in-block : (c : tie.After-number2) → (c .before .before .before .number8 .result ≡ blockOnes (edgesOf (entryIn (now (start c .args .l)))) (c .before .before .before .before .before .block-of .result))
     × (c .before .before .before .number8 .result ≤ start c .args .r .0 - 1)
@@ -64,19 +63,19 @@ in-block c =
     let z = c .before .before .before .number8 .ensures ∙ block-at _ _ (start c .pre .0) _ (q .0) .1 in
     (z, omega (arith, z, q .1))
 
-in-sub-block : (c : tie.After-number2) → (c .number2 .result ≡ subBlockOnes (edgesOf (entryIn (now (start c .args .l)))) (c .before .before .sub-block-of .result))
+in-sub-block : (c : tie.After-number2) → (c .number2 .result ≡ subBlockOnes (edgesOf (entryIn (now (start c .args .l)))) (c .before .before .sub-block-near .result))
     × (c .number2 .result ≤ start c .args .r .0 - 1 - c .before .before .before .number8 .result)
 in-sub-block c =
-    let q = c .before .before .sub-block-of .ensures in
+    let q = c .before .before .sub-block-near .ensures in
     let z = c .number2 .ensures .0 ∙ sub-block-at _ _ (start c .pre .0) _ (q .1) .1 in
     (z, omega (arith, z, q .2))
 
 begins : (c : tie.After-number2)
     → numbered (take (length (now (start c .args .l)) - start c .args .e .edges) (drop (start c .args .e .edges) (now (start c .args .l))))
-    (64 * c .before .before .sub-block-of .result) (start c .args .r .0 - 1 - c .before .before .before .number8 .result - c .number2 .result)
+    (64 * c .before .before .sub-block-near .result) (start c .args .r .0 - 1 - c .before .before .before .number8 .result - c .number2 .result)
     ≡ start c .args .r .0 - 1
 begins c =
-    let q = c .before .before .sub-block-of .ensures in
+    let q = c .before .before .sub-block-near .ensures in
     start-is _ _ (start c .pre .0) _ (part (start c)) _ _ _ _ _ (q .0) (q .1) (in-block c .0) (in-block c .1) (in-sub-block c .0) (in-sub-block c .1)
 
 sub-left : tie.Need-sub-left
@@ -119,7 +118,7 @@ edge-to-spec =
     add-number8
     number8-requires
     sub-in-block
-    sub-block-of-requires
+    sub-block-near-requires
     mul-number2
     add-number2
     number2-requires

@@ -1,23 +1,18 @@
 use mathlib.Core.Path.{_≡_, sym, _∙_}
-use mathlib.Core.Bool.{false, _&&_}
 use native.Mathlib.Omega.{arith}
-use lib.Dec.{leb, ltb}
-use borrow.Author.Tests.{leb-true, leb-false}
-use Rattle.loes.proofs.Tests.{lt-yes, yes-lt, both}
+use borrow.Author.Tests.{leb-true}
+use Rattle.loes.proofs.Tests.{yes-lt, both}
 use denote.Ref.{now}
-use Prim.Native.Nat.{ℕ, _+_, _*_, _-_, _≤_, _<_}
+use Prim.Native.Nat.{_+_, _*_, _-_, _≤_, _<_}
 use Rattle.loes.specs.Limits.{subBlockBits, subBlocks}
 use Rattle.loes.specs.Encode.{subBlockOnes}
 use Rattle.encoding.proofs.Opened.{opens-room}
 use Rattle.loes.specs.Entry.{edgesOf}
 use Rattle.loes.specs.Read.{entryIn}
 use Rattle.encoding.proofs.Pass.{sub-block-first}
+use Rattle.query.proofs.Index.{more-by}
 use Rattle.query.proofs.sub_block_of.Statement.{statement}
 use Rattle.query.proofs.sub_block_of.Tie as tie
-
--- not by k, though there: more
-more : (a b n k : ℕ) → (ltb a b && leb n k) ≡ false → a < b → k < n
-more a b n k h g = leb-false n k (rw (lt-yes a b g) at h)
 
 abbrev Inv-loop : tie.InvT-loop
 Inv-loop l e block k low₀ high₀ low high =
@@ -59,7 +54,7 @@ loop-less-2 c = omega arith
 loop-again-2 : tie.Need-loop-again-2 Inv-loop μ-loop
 loop-again-2 c =
     let i = c .before .before .before .loop .inv in
-    ((omega arith, omega arith, omega arith), i .1, i .2, λ h g. more _ _ _ _ (sym (c .before .begins-by .ensures) ∙ c .if1 .left) g)
+    ((omega arith, omega arith, omega arith), i .1, i .2, λ h g. more-by _ _ _ _ (sym (c .before .begins-by .ensures) ∙ c .if1 .left) g)
 
 returns : tie.Need-returns Inv-loop μ-loop
 returns c =

@@ -4,17 +4,17 @@ use mathlib.Core.Path.{_≡_}
 use Prim.Native.Nat.{ℕ, _-_, _<_, _≤_}
 use native.Mathlib.Omega.{arith}
 use lib.ListN.{getD}
-use Rattle.pack.proofs.same_bytes.Statement.{statement}
-use Rattle.pack.proofs.same_bytes.Tie as tie
+use Rattle.pack.proofs.same_from.Statement.{statement}
+use Rattle.pack.proofs.same_from.Tie as tie
 
 abbrev Inv-loop : tie.InvT-loop
-Inv-loop x y t j₀ j = (j ≤ t) × ((i : ℕ) → i < j → getD x i 0 ≡ getD y i 0)
+Inv-loop x y from t j₀ j = (j ≤ t) × ((i : ℕ) → i < j → getD x i 0 ≡ getD y i 0)
 
 abbrev μ-loop : tie.MeasureT-loop
-μ-loop x y t j₀ j = t - j
+μ-loop x y from t j₀ j = t - j
 
 loop-holds : tie.Need-loop-holds Inv-loop μ-loop
-loop-holds c = (omega arith, λ i l. absurd (omega arith))
+loop-holds c = (c .pre .2, c .pre .3)
 
 shared-slice-read-if1 : tie.Need-shared-slice-read-if1 Inv-loop μ-loop
 shared-slice-read-if1 c = search needs
@@ -39,8 +39,8 @@ loop-again c = (search needs, below-more _ _ (c .before .before .before .before 
 returns-2 : tie.Need-returns-2 Inv-loop μ-loop
 returns-2 c = record { most = c .before .loop .inv .0; each = c .before .loop .inv .1; differ = λ l. absurd (omega arith) }
 
-pub same-bytes-spec : {M : Type 1} → statement M
-same-bytes-spec =
+pub same-from-spec : {M : Type 1} → statement M
+same-from-spec =
     tie.close
     (tie.spec
     Inv-loop

@@ -8,8 +8,8 @@ use Rattle.loes.proofs.Tree.{bit-le}
 use Rattle.query.specs.Paths.{pathKey}
 use mathlib.Core.Bool.{false}
 use Rattle.query.proofs.Writing.{upTo, byte-none, byte-more, byte-all, byte-small, byte-lt}
-use Rattle.query.proofs.key_byte.Statement.{statement}
-use Rattle.query.proofs.key_byte.Tie as tie
+use Rattle.query.proofs.part_byte.Statement.{statement}
+use Rattle.query.proofs.part_byte.Tie as tie
 
 abbrev Inv-loop : tie.InvT-loop
 Inv-loop offsets m j v₀ e₀ v e = (e ≤ 8) × (v ≡ upTo (pathKey offsets m) j e)
@@ -64,8 +64,8 @@ cast-result c = omega (arith, whole c, byte-lt (pathKey (now (first (c .before) 
 returns : tie.Need-returns Inv-loop μ-loop
 returns c = whole c
 
-pub key-byte-spec : {M : Type 1} → statement M
-key-byte-spec =
+pub part-byte-spec : {M : Type 1} → statement M
+part-byte-spec =
     tie.close
     (tie.spec
     Inv-loop

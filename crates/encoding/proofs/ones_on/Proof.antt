@@ -1,0 +1,39 @@
+use denote.Ref.{now}
+use mathlib.Core.Path.{ap, _∙_}
+use native.Mathlib.Omega.{arith}
+use Rattle.loes.specs.Edges.{onesBefore}
+use Rattle.encoding.specs.Opened.{edgesAt}
+use borrow.Author.Needs.{needs}
+use Rattle.encoding.proofs.ones_on.Statement.{statement}
+use Rattle.encoding.proofs.ones_on.Tie as tie
+
+sub-far : tie.Need-sub-far
+sub-far c = search needs
+
+indexed-ones-requires : tie.Need-indexed-ones-requires
+indexed-ones-requires c κs = search needs
+
+returns : tie.Need-returns
+returns c = search needs
+
+returns-2 : tie.Need-returns-2
+returns-2 c =
+    let s = c .before .before .before .before .before .before in
+    s .pre .5 ∙ ap (onesBefore (edgesAt (now (s .args .l)) (s .args .e))) (omega arith)
+
+ones-near-requires : tie.Need-ones-near-requires
+ones-near-requires c κs = search needs
+
+returns-3 : tie.Need-returns-3
+returns-3 c = search needs
+
+pub ones-on-spec : {M : Type 1} → statement M
+ones-on-spec =
+    tie.close
+    (tie.spec
+    sub-far
+    indexed-ones-requires
+    returns
+    returns-2
+    ones-near-requires
+    returns-3)

@@ -1,0 +1,115 @@
+use mathlib.Core.Path.{_≡_, refl, _∙_}
+use Prim.Native.Nat.{_+_, _-_, _/_, _%_, _^_, _≤_, _<_}
+use native.Mathlib.Omega.{arith}
+use denote.Ref.{now}
+use lib.ListN.{length, take, drop, getD, length-drop}
+use Rattle.loes.specs.Entry.{edgesOf, edgeCount}
+use Rattle.loes.specs.Edges.{onesBefore}
+use Rattle.loes.specs.Read.{entryIn}
+use Rattle.loes.proofs.Seven.{ones-le}
+use Rattle.bits.proofs.Counts.{shift-small}
+use Rattle.encoding.proofs.Opened.{opens-room, room-at}
+use Rattle.query.specs.Select.{numbered}
+use Rattle.query.proofs.Index.{part-is, before-is, behind-is, select-is}
+use borrow.Author.Needs.{needs}
+use Rattle.query.proofs.edge_behind.Statement.{statement}
+use Rattle.query.proofs.edge_behind.Tie as tie
+
+-- the byte of the offset lies in the bytes
+room : (s : tie.Start) → (s .args .e .edges + s .args .from .0 / 8 < length (now (s .args .l))) × (length (now (s .args .l)) ≤ 68695)
+room s =
+    let l = now (s .args .l) in
+    let e = s .args .e in
+    let r = opens-room l e (s .pre .0) in
+    let h = behind-is l e (s .pre .0) (drop (e .edges) l) refl (s .args .from .0) (s .args .k) _ (s .pre .3) refl .0 in
+    (room-at l e (s .args .from .0) r h .0, r .bytes)
+
+abbrev start : tie.After-shared-slice-known5 → tie.Start
+start c = c .before .before .before .before .before .before .before
+
+byte : (c : tie.After-shared-slice-known4) → let a = c .before .before .before .before .before .args in getD (now (a .l)) (a .e .edges + a .from .0 / 8) 0 < 256
+byte c = let a = c .before .before .before .before .before .args in c .shared-slice-known4 .given (a .e .edges + a .from .0 / 8) .fits
+
+index : (c : tie.After-struct-known2) → let a = c .before .before .before .before .before .before .args in getD (now (a .l)) (a .e .edges + a .from .0 / 8) 0 / 2 ^ (8 - a .from .0 % 8) < 256
+index c = let a = c .before .before .before .before .before .before .args in shift-small (getD (now (a .l)) (a .e .edges + a .from .0 / 8) 0) (8 - a .from .0 % 8) (byte (c .before))
+
+begins : (c : tie.After-shared-slice-known5) → let a = start c .args in
+    numbered (take (length (now (a .l)) - a .e .edges) (drop (a .e .edges) (now (a .l)))) (a .from .0 / 8)
+    (getD (now (a .t)) (getD (now (a .l)) (a .e .edges + a .from .0 / 8) 0 / 2 ^ (8 - a .from .0 % 8)) 0 + a .k)
+    ≡ onesBefore (edgesOf (entryIn (now (a .l)))) (a .from .0) + a .k
+begins c =
+    let s = start c in
+    let a = s .args in
+    let p = part-is (now (a .l)) (a .e .edges) in
+    behind-is (now (a .l)) (a .e) (s .pre .0) _ p (a .from .0) (a .k) _ (s .pre .3) (before-is (now (a .l)) _ (now (a .t)) (a .e .edges) (a .from .0) p (s .pre .1) (byte (c .before .before))) .1
+
+add-x : tie.Need-add-x
+add-x c = omega (arith, room (c .before .before .before .before))
+
+shared-slice-read-x : tie.Need-shared-slice-read-x
+shared-slice-read-x c = room (c .before .before .before .before .before) .0
+
+cast-x : tie.Need-cast-x
+cast-x c = omega (arith, byte c)
+
+sub-x : tie.Need-sub-x
+sub-x c = search needs
+
+shr-x : tie.Need-shr-x
+shr-x c = search needs
+
+shared-slice-read-before : tie.Need-shared-slice-read-before
+shared-slice-read-before c = omega (arith, index (c .before), start c .pre .1 .size)
+
+cast-before : tie.Need-cast-before
+cast-before c = let a = start c .args in omega (arith, c .shared-slice-known5 .given (getD (now (a .l)) (a .e .edges + a .from .0 / 8) 0 / 2 ^ (8 - a .from .0 % 8)))
+
+sub-select-from : tie.Need-sub-select-from
+sub-select-from c = omega (arith, room (start c))
+
+part-select-from-start : tie.Need-part-select-from-start
+part-select-from-start c = omega (arith, room (start c))
+
+part-select-from-end : tie.Need-part-select-from-end
+part-select-from-end c = search needs
+
+add-select-from : tie.Need-add-select-from
+unfolding edgeCount
+add-select-from c =
+    let s = start (c .before) in
+    let a = s .args in
+    omega (arith, c .before .shared-slice-known5 .given (getD (now (a .l)) (a .e .edges + a .from .0 / 8) 0 / 2 ^ (8 - a .from .0 % 8)), s .pre .3, ones-le (edgesOf (entryIn (now (a .l)))), s .pre .0 .bits, opens-room _ _ (s .pre .0) .few)
+
+select-from-requires : tie.Need-select-from-requires
+select-from-requires c κs =
+    let s = start (c .before) in
+    let a = s .args in
+    let p = part-is (now (a .l)) (a .e .edges) in (
+      s .pre .1,
+      s .pre .2,
+      rw p (omega (arith, room s, length-drop (a .e .edges) (now (a .l)))),
+      rw (begins (c .before)) (select-is _ _ (s .pre .0) _ p _ (s .pre .3) .0),
+    )
+
+returns : tie.Need-returns
+returns c =
+    let s = start (c .before .before) in
+    rw (begins (c .before .before)) at (c .select-from .ensures) ∙ select-is _ _ (s .pre .0) _ (part-is (now (s .args .l)) (s .args .e .edges)) _ (s .pre .3) .1
+
+pub edge-behind-spec : {M : Type 1} → statement M
+edge-behind-spec =
+    tie.close
+    (tie.spec
+    add-x
+    shared-slice-read-x
+    cast-x
+    sub-x
+    shr-x
+    shared-slice-read-before
+    cast-before
+    sub-select-from
+    part-select-from-start
+    part-select-from-end
+    add-select-from
+    select-from-requires
+    returns)
