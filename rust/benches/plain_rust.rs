@@ -6,31 +6,30 @@ pub const MAX_EDGES: usize = 524_280;
 pub const BLOCK_BITS: usize = 65_536;
 pub const SUB_BLOCK_BITS: usize = 512;
 
-/// For each byte its set bits, and 1,024 more if one of its four records is empty.
-static TALLIES: [u16; 256] = tallies();
+/// For each byte its set bits.
+static TALLIES: [u8; 256] = tallies();
 
-const fn tallies() -> [u16; 256] {
+const fn tallies() -> [u8; 256] {
     let mut table = [0; 256];
     let mut x = 0;
     while x < 256 {
-        let empty = x & 0xC0 == 0 || x & 0x30 == 0 || x & 0x0C == 0 || x & 0x03 == 0;
-        table[x] = (x as u8).count_ones() as u16 + if empty { 1_024 } else { 0 };
+        table[x] = (x as u8).count_ones() as u8;
         x += 1;
     }
     table
 }
 
 /// For each byte and k, the place of its set bit number k, or 8.
-static PLACES: [u8; 2_048] = places();
+static PLACES: [[u8; 8]; 256] = places();
 
-const fn places() -> [u8; 2_048] {
-    let mut table = [8; 2_048];
+const fn places() -> [[u8; 8]; 256] {
+    let mut table = [[8; 8]; 256];
     let mut x = 0;
     while x < 256 {
         let (mut place, mut k) = (0, 0);
         while place < 8 {
             if x & (0x80 >> place) != 0 {
-                table[8 * x + k] = place;
+                table[x][k] = place;
                 k += 1;
             }
             place += 1;
@@ -40,20 +39,51 @@ const fn places() -> [u8; 2_048] {
     table
 }
 
-fn number2(l: &[u8], at: usize) -> usize {
-    usize::from(u16::from_be_bytes(l[at..at + 2].try_into().unwrap()))
+fn number2(bytes: &[u8]) -> usize {
+    usize::from(u16::from_be_bytes(bytes.try_into().unwrap()))
 }
 
-fn number4(l: &[u8], at: usize) -> usize {
-    u32::from_be_bytes(l[at..at + 4].try_into().unwrap()) as usize
+fn number4(bytes: &[u8]) -> usize {
+    u32::from_be_bytes(bytes.try_into().unwrap()) as usize
 }
 
-fn number8(l: &[u8], at: usize) -> usize {
-    u64::from_be_bytes(l[at..at + 8].try_into().unwrap()) as usize
+fn number8(bytes: &[u8]) -> usize {
+    u64::from_be_bytes(bytes.try_into().unwrap()) as usize
+}
+
+/// Eight bytes as one word, the first the least.
+fn word(l: &[u8], at: usize) -> u64 {
+    u64::from_le_bytes(l[at..at + 8].try_into().unwrap())
 }
 
 fn bit_at(l: &[u8], o: usize) -> bool {
     l[o / 8] >> (7 - o % 8) & 1 == 1
+}
+
+/// Record i: 2 for its first edge, 1 for its second.
+fn record(l: &[u8], i: usize) -> u8 {
+    l[i / 4] >> (6 - 2 * (i % 4)) & 3
+}
+
+/// The set bits of a byte.
+fn ones_in(x: u8) -> usize {
+    usize::from(TALLIES[usize::from(x)])
+}
+
+/// The set bits of few bytes, by the table.
+fn tally(bytes: &[u8]) -> usize {
+    bytes.iter().map(|x| ones_in(*x)).sum()
+}
+
+/// The set bits among so many first bits of a byte.
+fn ones_of_first(x: u8, bits: usize) -> usize {
+    ones_in((u16::from(x) >> (8 - bits)) as u8)
+}
+
+/// The set bits of many bytes, by words.
+fn count_ones(bytes: &[u8]) -> usize {
+    let (words, rest) = bytes.as_chunks();
+    words.iter().map(|x| u64::from_le_bytes(*x).count_ones() as usize).sum::<usize>() + tally(rest)
 }
 
 pub fn key_len(width: usize) -> usize {
@@ -72,116 +102,177 @@ pub struct Opened {
     pub sub_blocks: usize,
 }
 
-/// Where the body of a field begins.
-fn field(l: &[u8], at: usize, tag: u8, length: usize) -> Result<usize, u64> {
+/// The bodies of fields 3 to 6. The edges go on to the end of the bytes, so that words can be read from any of them.
+struct Fields<'a> {
+    ends: &'a [[u8; 4]],
+    edges: &'a [u8],
+    blocks: &'a [[u8; 8]],
+    sub_blocks: &'a [[u8; 2]],
+}
+
+impl Opened {
+    /// Those of the bytes that were opened.
+    #[inline(always)]
+    fn fields<'a>(&self, l: &'a [u8]) -> Fields<'a> {
+        Fields {
+            ends: l[15..15 + 4 * self.width].as_chunks().0,
+            edges: &l[self.edges..],
+            blocks: l[self.blocks..self.sub_blocks - 3].as_chunks().0,
+            sub_blocks: l[self.sub_blocks..].as_chunks().0,
+        }
+    }
+}
+
+/// The body of a field that begins at a place.
+fn field(l: &[u8], at: usize, tag: u8, length: usize) -> Result<&[u8], u64> {
     if l.len() - at < 3 {
         return Err(1);
     }
     if l[at] != tag {
         return Err(2);
     }
-    if number2(l, at + 1) != length {
+    if number2(&l[at + 1..at + 3]) != length {
         return Err(3);
     }
-    if l.len() - at - 3 < length {
-        return Err(1);
-    }
-    Ok(at + 3)
+    l[at + 3..].get(..length).ok_or(1)
 }
 
 pub fn open(l: &[u8]) -> Result<Opened, u64> {
-    let width = number2(l, field(l, 0, 1, 2)?);
+    let width = number2(field(l, 0, 1, 2)?);
     if width == 0 || width > MAX_WIDTH {
         return Err(4);
     }
-    let count = number4(l, field(l, 5, 2, 4)?);
-    let levels = field(l, 12, 3, 4 * width)?;
-    let bits = number4(l, levels + 4 * width - 4);
+    let count = number4(field(l, 5, 2, 4)?);
+    let ends = field(l, 12, 3, 4 * width)?;
+    let bits = number4(&ends[4 * width - 4..]);
     if bits > MAX_EDGES {
         return Err(5);
     }
-    let edges = field(l, levels + 4 * width, 4, bits.div_ceil(8))?;
-    let blocks = field(l, edges + bits.div_ceil(8), 5, 8 * bits.div_ceil(BLOCK_BITS))?;
-    let sub_blocks = field(l, blocks + 8 * bits.div_ceil(BLOCK_BITS), 6, 2 * bits.div_ceil(SUB_BLOCK_BITS))?;
-    if sub_blocks + 2 * bits.div_ceil(SUB_BLOCK_BITS) != l.len() {
+    // each field begins behind the one before it
+    let edges = 15 + 4 * width + 3;
+    let blocks = edges + field(l, edges - 3, 4, bits.div_ceil(8))?.len() + 3;
+    let sub_blocks = blocks + field(l, blocks - 3, 5, 8 * bits.div_ceil(BLOCK_BITS))?.len() + 3;
+    let end = sub_blocks + field(l, sub_blocks - 3, 6, 2 * bits.div_ceil(SUB_BLOCK_BITS))?.len();
+    if end != l.len() {
         return Err(6);
     }
     let e = Opened { width, count, bits, edges, blocks, sub_blocks };
-    if check(l, &e, levels) {
+    if check(&e, &e.fields(l)) {
         Ok(e)
     } else {
         Err(7)
     }
 }
 
-fn tally(bytes: &[u8]) -> usize {
-    bytes.iter().map(|x| usize::from(TALLIES[usize::from(*x)])).sum()
-}
+/// The lower bit of each of a word's 32 records.
+const RECORDS: u64 = 0x5555_5555_5555_5555;
 
-fn check(l: &[u8], e: &Opened, levels: usize) -> bool {
-    // one pass over the whole edge bytes: the index fields, and no empty record
-    let bytes = &l[e.edges..e.edges + e.bits.div_ceil(8)];
-    let mut ones = 0;
-    for (j, part) in bytes[..e.bits.div_ceil(8)].chunks(64).enumerate() {
-        let block = number8(l, e.blocks + 8 * (j / 128));
-        if j % 128 == 0 && block != ones {
-            return false;
-        }
-        if block + number2(l, e.sub_blocks + 2 * j) != ones {
-            return false;
-        }
-        let whole = (e.bits / 8 - 64 * j).min(part.len());
-        let n = tally(&part[..whole]);
-        if n >= 1_024 {
-            return false;
-        }
-        ones += n;
-    }
-    // the last byte, if it is not whole
-    let left = e.bits % 8;
-    if left % 2 == 1 {
-        return false;
-    }
-    if left > 0 {
-        let x = bytes[e.bits / 8];
-        if x & (0xFF >> left) != 0 || (0..left / 2).any(|record| x & (0xC0 >> (2 * record)) == 0) {
-            return false;
-        }
+/// The set bits of bytes, if none of their records is empty.
+#[inline(always)]
+fn full_ones(bytes: &[u8]) -> Option<usize> {
+    let (words, rest) = bytes.as_chunks();
+    let (mut full, mut ones) = (RECORDS, 0);
+    for x in words.iter().map(|x| u64::from_le_bytes(*x)) {
+        full &= x | x >> 1;
         ones += x.count_ones() as usize;
     }
-    // level by level: each set bit is a record of the next level
-    let roots = usize::from(e.bits > 0);
-    let mut before = 0;
-    for d in 0..e.width {
-        let end = 2 * (roots + before);
-        if number4(l, levels + 4 * d) != end {
+    // the rest as one word, against the records that it has
+    let x = rest.iter().rev().fold(0, |x, byte| x << 8 | u64::from(*byte));
+    if full != RECORDS || RECORDS & (x | x >> 1) != RECORDS % (1 << (8 * rest.len())) {
+        return None;
+    }
+    Some(ones + x.count_ones() as usize)
+}
+
+/// The same of the first 64 bytes, or of all if they are fewer.
+fn sub_block_ones(bytes: &[u8]) -> Option<usize> {
+    match bytes.first_chunk::<64>() {
+        Some(all) => full_ones(all),
+        None => full_ones(bytes),
+    }
+}
+
+/// One pass over the whole edge bytes: the index fields are right, and no record is empty. Tells the set bits.
+fn whole_ones(e: &Opened, f: &Fields) -> Option<usize> {
+    let bytes = &f.edges[..e.bits / 8];
+    let (mut base, mut ones) = (0, 0);
+    for (j, entry) in f.sub_blocks.iter().enumerate() {
+        if j % 128 == 0 {
+            base = ones;
+            if number8(&f.blocks[j / 128]) != base {
+                return None;
+            }
+        }
+        if base + number2(entry) != ones {
+            return None;
+        }
+        ones += sub_block_ones(&bytes[64 * j..])?;
+    }
+    Some(ones)
+}
+
+/// The set bits of the last byte, if it is not whole: what is left over is clear, and with that set no record is empty.
+fn last_ones(e: &Opened, f: &Fields) -> Option<usize> {
+    if e.bits % 8 == 0 {
+        return Some(0);
+    }
+    let (x, over) = (f.edges[e.bits / 8], 0xFF >> (e.bits % 8));
+    let y = x | over;
+    (x & over == 0 && 0x55 & (y | y >> 1) == 0x55).then(|| ones_in(x))
+}
+
+/// Level by level: each set bit is a record of the next level. A level's end is read before the set bits to it are counted.
+fn levels_agree(e: &Opened, f: &Fields) -> bool {
+    let mut ends = f.ends.iter().map(|end| number4(end));
+    if e.bits == 0 {
+        return ends.all(|end| end == 0);
+    }
+    let (mut from, mut start, mut ones) = (0, 0, 0);
+    for end in ends {
+        ones = ones_on(f, from, ones, start);
+        if end != 2 * (1 + ones) {
             return false;
         }
-        before = ones_before(l, e, end.min(e.bits));
+        (from, start) = (start, end.min(e.bits));
     }
-    e.count + e.bits / 2 == roots + ones
+    true
+}
+
+fn check(e: &Opened, f: &Fields) -> bool {
+    let (Some(whole), Some(last)) = (whole_ones(e, f), last_ones(e, f)) else {
+        return false;
+    };
+    levels_agree(e, f) && e.count + e.bits / 2 == usize::from(e.bits > 0) + whole + last
 }
 
 // ---- Rank and the descent
 
 /// The set bits before offset o, 0 to b.
-#[inline]
-pub fn ones_before(l: &[u8], e: &Opened, o: usize) -> usize {
+#[inline(always)]
+fn ones_before(f: &Fields, o: usize) -> usize {
     if o == 0 {
         return 0;
     }
     let o = o - 1;
-    let base = number8(l, e.blocks + 8 * (o / BLOCK_BITS)) + number2(l, e.sub_blocks + 2 * (o / SUB_BLOCK_BITS));
-    let whole = tally(&l[e.edges + 64 * (o / SUB_BLOCK_BITS)..e.edges + o / 8]) % 1_024;
-    let last = l[e.edges + o / 8] >> (7 - o % 8);
-    base + whole + usize::from(TALLIES[usize::from(last)] % 1_024)
+    let base = number8(&f.blocks[o / BLOCK_BITS]) + number2(&f.sub_blocks[o / SUB_BLOCK_BITS]);
+    let whole = tally(&f.edges[o / SUB_BLOCK_BITS * 64..o / 8]);
+    base + whole + ones_of_first(f.edges[o / 8], o % 8 + 1)
+}
+
+/// The same if `ones` are set before `from`, which is not behind it: where it is near, the edges between are counted.
+fn ones_on(f: &Fields, from: usize, ones: usize, o: usize) -> usize {
+    if o - from > 256 {
+        return ones_before(f, o);
+    }
+    let whole = tally(&f.edges[from / 8..o / 8]);
+    ones + whole + ones_of_first(f.edges[o / 8], o % 8) - ones_of_first(f.edges[from / 8], from % 8)
 }
 
 pub fn rank(l: &[u8], e: &Opened, offset: u64) -> Result<u64, u64> {
     if offset >= e.bits as u64 {
         return Err(9);
     }
-    Ok(ones_before(l, e, offset as usize + 1) as u64)
+    Ok(ones_before(&e.fields(l), offset as usize + 1) as u64)
 }
 
 fn key_fits(e: &Opened, key: &[u8]) -> Result<(), u64> {
@@ -197,12 +288,12 @@ fn locate(l: &[u8], e: &Opened, key: &[u8]) -> (usize, bool) {
     if e.bits == 0 {
         return (0, false);
     }
-    let edges = &l[e.edges..];
+    let f = e.fields(l);
     let (mut record, mut found) = (0, true);
     for d in 0..e.width {
         let edge = 2 * record + usize::from(found && bit_at(key, d));
-        found = found && bit_at(edges, edge);
-        record = 1 + ones_before(l, e, edge);
+        found = found && bit_at(f.edges, edge);
+        record = 1 + ones_before(&f, edge);
     }
     (record - e.bits / 2, found)
 }
@@ -226,42 +317,66 @@ pub fn lower_bound(l: &[u8], e: &Opened, key: &[u8]) -> Result<Option<u64>, u64>
 
 // ---- Select and key_at
 
-/// The offset of set bit number k: by block, sub-block, byte and table.
-fn select(l: &[u8], e: &Opened, k: usize) -> usize {
-    let mut block = e.bits.div_ceil(BLOCK_BITS) - 1;
-    while number8(l, e.blocks + 8 * block) > k {
-        block -= 1;
+/// The offset of the set bit that has k set bits before it from byte i on: by words, bytes and table.
+fn select_from(edges: &[u8], mut i: usize, mut k: usize) -> usize {
+    let mut x = word(edges, i);
+    while x.count_ones() as usize <= k {
+        k -= x.count_ones() as usize;
+        i += 8;
+        x = word(edges, i);
     }
-    let mut left = k - number8(l, e.blocks + 8 * block);
-    // the last sub-block of the block with no more set bits before it
-    let (mut from, mut to) = (128 * block, e.bits.div_ceil(SUB_BLOCK_BITS).min(128 * block + 128));
-    while to - from > 1 {
-        let middle = (from + to) / 2;
-        if number2(l, e.sub_blocks + 2 * middle) <= left {
-            from = middle;
-        } else {
-            to = middle;
-        }
+    while ones_in(x as u8) <= k {
+        k -= ones_in(x as u8);
+        i += 1;
+        x >>= 8;
     }
-    left -= number2(l, e.sub_blocks + 2 * from);
-    let mut at = e.edges + 64 * from;
-    loop {
-        let n = usize::from(TALLIES[usize::from(l[at])] % 1_024);
-        if left < n {
-            return 8 * (at - e.edges) + usize::from(PLACES[8 * usize::from(l[at]) + left]);
-        }
-        left -= n;
-        at += 1;
-    }
+    8 * i + usize::from(PLACES[usize::from(x as u8)][k % 8])
 }
 
-fn write_key(offsets: &[u64], out: &mut [u8]) -> usize {
-    let t = key_len(offsets.len());
-    for (byte, bits) in out.iter_mut().zip(offsets.chunks(8)) {
-        let value = bits.iter().fold(0, |value, offset| 2 * value + (offset % 2) as u8);
-        *byte = if bits.len() < 8 { value << (8 - bits.len()) } else { value };
+/// The last sub-block of a block with at most k set bits of the block before it: the hint or the one before it, or by halving.
+fn sub_block_of(f: &Fields, block: usize, k: usize, hint: usize) -> usize {
+    let begins_by = |j: usize| f.sub_blocks.get(j).is_some_and(|entry| number2(entry) <= k);
+    if hint / 128 == block {
+        if begins_by(hint) {
+            if !begins_by(hint + 1) {
+                return hint;
+            }
+        } else if hint % 128 > 0 && begins_by(hint - 1) {
+            return hint - 1;
+        }
     }
-    t
+    let of_block = &f.sub_blocks[128 * block..f.sub_blocks.len().min(128 * block + 128)];
+    128 * block + of_block.partition_point(|entry| number2(entry) <= k) - 1
+}
+
+/// The offset of set bit number k: by block and sub-block, which the hint may be.
+fn select(f: &Fields, k: usize, hint: usize) -> usize {
+    let block = f.blocks[1..].iter().take_while(|entry| number8(*entry) <= k).count();
+    let k = k - number8(&f.blocks[block]);
+    let sub_block = sub_block_of(f, block, k, hint);
+    select_from(f.edges, 64 * sub_block, k - number2(&f.sub_blocks[sub_block]))
+}
+
+/// The key bits of at most eight edges, as a number.
+fn key_bits(offsets: &[u64]) -> u8 {
+    offsets.iter().fold(0, |value, offset| 2 * value + (offset % 2) as u8)
+}
+
+/// The key of a path, eight bits at a time.
+fn write_key(path: &[u64], out: &mut [u8]) -> usize {
+    let (whole, rest) = path.as_chunks::<8>();
+    for (byte, offsets) in out.iter_mut().zip(whole) {
+        *byte = key_bits(offsets);
+    }
+    if !rest.is_empty() {
+        out[whole.len()] = key_bits(rest) << (8 - rest.len());
+    }
+    key_len(path.len())
+}
+
+/// Where level d begins.
+fn level_start(f: &Fields, d: usize) -> usize {
+    f.ends.get(d.wrapping_sub(1)).map_or(0, |end| number4(end))
 }
 
 pub fn key_at(l: &[u8], e: &Opened, index: u64, out: &mut [u8]) -> Result<usize, u64> {
@@ -271,12 +386,23 @@ pub fn key_at(l: &[u8], e: &Opened, index: u64, out: &mut [u8]) -> Result<usize,
     if out.len() < key_len(e.width) {
         return Err(14);
     }
+    let f = e.fields(l);
     let mut offsets = [0; MAX_WIDTH];
     let mut record = e.bits / 2 + index as usize;
+    let (mut end, mut last, mut guess) = (e.bits, e.bits, e.bits);
     for d in (0..e.width).rev() {
-        let o = select(l, e, record - 1);
+        let start = level_start(&f, d);
+        // the record's number in its level: a small one is counted from the start of the level above
+        let k = record - end / 2;
+        let o = if k < 128 {
+            select_from(f.edges, start / 8, k + ones_of_first(f.edges[start / 8], start % 8))
+        } else {
+            select(&f, record - 1, guess / SUB_BLOCK_BITS)
+        };
         offsets[d] = o as u64;
-        record = o / 2;
+        // the next may be as far above as this one is above the last
+        guess = (2 * o).saturating_sub(last);
+        (end, last, record) = (start, o, o / 2);
     }
     Ok(write_key(&offsets[..e.width], out))
 }
@@ -296,19 +422,25 @@ impl Cursor {
 }
 
 fn is_path(l: &[u8], e: &Opened, offsets: &[u64]) -> bool {
-    let edges = &l[e.edges..];
+    let f = e.fields(l);
     let mut record = 0;
     for o in offsets {
-        if o / 2 != record as u64 || *o >= e.bits as u64 || !bit_at(edges, *o as usize) {
+        if o / 2 != record as u64 || *o >= e.bits as u64 || !bit_at(f.edges, *o as usize) {
             return false;
         }
-        record = ones_before(l, e, *o as usize) + 1;
+        record = ones_before(&f, *o as usize) + 1;
     }
     true
 }
 
-fn first_edge(edges: &[u8], record: usize) -> usize {
-    2 * record + usize::from(!bit_at(edges, 2 * record))
+/// The first edge of record i.
+fn first_edge(edges: &[u8], i: usize) -> usize {
+    2 * i + 1 - usize::from(record(edges, i) / 2)
+}
+
+/// Whether a path turns at edge o: its record has the other edge too, and behind it.
+fn turns(edges: &[u8], o: usize) -> bool {
+    usize::from(record(edges, o / 2)) + 4 * (o % 2) == 3
 }
 
 pub fn advance(l: &[u8], e: &Opened, cursor: &mut Cursor, out: &mut [u8]) -> Result<usize, u64> {
@@ -324,38 +456,46 @@ pub fn advance(l: &[u8], e: &Opened, cursor: &mut Cursor, out: &mut [u8]) -> Res
     next(l, e, cursor, out)
 }
 
+/// The path of the first member: on each level the first edge of the first record.
+fn first_path(f: &Fields, path: &mut [u64]) {
+    let mut record = 0;
+    for (o, end) in path.iter_mut().zip(f.ends) {
+        *o = first_edge(f.edges, record) as u64;
+        record = number4(end) / 2;
+    }
+}
+
+/// A path moved on from its turn: there to the next edge, on the levels behind it to the first of the next record.
+fn move_on(edges: &[u8], turn: usize, path: &mut [u64]) {
+    path[turn] += 1;
+    for o in &mut path[turn + 1..] {
+        *o = first_edge(edges, *o as usize / 2 + 1) as u64;
+    }
+}
+
 /// The step of a right cursor.
 pub fn next(l: &[u8], e: &Opened, cursor: &mut Cursor, out: &mut [u8]) -> Result<usize, u64> {
     let edges = &l[e.edges..];
-    let m = e.width;
+    let path = &mut cursor.offsets[..e.width];
     // the lowest level that turns, where the path is at a member
     let turn = match cursor.state {
         0 if e.bits > 0 => Some(0),
-        1 => (0..m).rev().find(|d| cursor.offsets[*d] % 2 == 0 && bit_at(edges, cursor.offsets[*d] as usize + 1)),
+        1 => path.iter().rposition(|o| turns(edges, *o as usize)),
         _ => None,
     };
     let Some(turn) = turn else {
         *cursor = Cursor { state: 2, offsets: [0; MAX_WIDTH] };
         return Ok(0);
     };
-    if out.len() < key_len(m) {
+    if out.len() < key_len(e.width) {
         return Err(14);
     }
-    if cursor.state == 0 {
-        let mut record = 0;
-        for d in 0..m {
-            let o = first_edge(edges, record);
-            cursor.offsets[d] = o as u64;
-            record = ones_before(l, e, o) + 1;
-        }
-    } else {
-        cursor.offsets[turn] += 1;
-        for d in turn + 1..m {
-            cursor.offsets[d] = first_edge(edges, cursor.offsets[d] as usize / 2 + 1) as u64;
-        }
+    match cursor.state {
+        0 => first_path(&e.fields(l), path),
+        _ => move_on(edges, turn, path),
     }
     cursor.state = 1;
-    Ok(write_key(&cursor.offsets[..m], out))
+    Ok(write_key(path, out))
 }
 
 // ---- The writer of the six fields
@@ -391,45 +531,94 @@ fn write(width: usize, count: usize, ends: &[usize], edges: &[u8], out: &mut [u8
     }
     head(out, &mut at, 4, bytes);
     put(out, &mut at, &edges[..bytes]);
-    let mut ones = [0u64; 9];
-    let mut subs = [0u16; 1_024];
-    let (mut total, mut inside) = (0, 0);
+    head(out, &mut at, 5, 8 * blocks);
+    let mut block = at;
+    at += 8 * blocks;
+    head(out, &mut at, 6, 2 * sub_blocks);
+    let (mut base, mut ones) = (0, 0);
     for (j, part) in edges[..bytes].chunks(64).enumerate() {
         if j % 128 == 0 {
-            ones[j / 128] = total;
-            inside = 0;
+            base = ones;
+            put(out, &mut block, &(base as u64).to_be_bytes());
         }
-        subs[j] = inside as u16;
-        let n = tally(part) % 1_024;
-        inside += n;
-        total += n as u64;
-    }
-    head(out, &mut at, 5, 8 * blocks);
-    for entry in &ones[..blocks] {
-        put(out, &mut at, &entry.to_be_bytes());
-    }
-    head(out, &mut at, 6, 2 * sub_blocks);
-    for entry in &subs[..sub_blocks] {
-        put(out, &mut at, &entry.to_be_bytes());
+        put(out, &mut at, &((ones - base) as u16).to_be_bytes());
+        ones += count_ones(part);
     }
     Ok(length)
 }
 
 // ---- Pack
 
+/// How many bits two keys agree in, from the first on: by words, then by bytes.
 fn common_prefix(x: &[u8], y: &[u8], width: usize) -> usize {
-    match x.iter().zip(y).position(|(a, b)| a != b) {
-        Some(j) => 8 * j + (x[j] ^ y[j]).leading_zeros() as usize,
-        None => width,
+    let ((x, x_rest), (y, y_rest)) = (x.as_chunks(), y.as_chunks());
+    for (j, (p, q)) in x.iter().zip(y).enumerate() {
+        let difference = u64::from_be_bytes(*p) ^ u64::from_be_bytes(*q);
+        if difference != 0 {
+            return 64 * j + difference.leading_zeros() as usize;
+        }
     }
+    for (j, (p, q)) in x_rest.iter().zip(y_rest).enumerate() {
+        if p != q {
+            return 64 * x.len() + 8 * j + (p ^ q).leading_zeros() as usize;
+        }
+    }
+    width
 }
 
 /// The first length of which the key has a prefix that none before it has.
-fn first_new(batch: &[u8], i: usize, t: usize, width: usize) -> usize {
-    if i == 0 {
-        return 0;
+fn first_new(before: Option<&[u8]>, key: &[u8], width: usize) -> usize {
+    before.map_or(0, |before| common_prefix(before, key, width) + 1)
+}
+
+/// Tests the keys, and counts the records of each level, and the members behind them.
+fn count_records(batch: &[u8], t: usize, m: usize) -> Result<[usize; MAX_WIDTH + 1], u64> {
+    let mut counts = [0; MAX_WIDTH + 1];
+    let mut before = None;
+    for key in batch.chunks_exact(t) {
+        if u32::from(key[t - 1]) % (1 << (8 * t - m)) != 0 {
+            return Err(11);
+        }
+        let new = first_new(before, key, m);
+        if 0 < new && new <= m && !bit_at(key, new - 1) {
+            return Err(12);
+        }
+        if new <= m {
+            counts[new] += 1;
+        }
+        before = Some(key);
     }
-    common_prefix(&batch[(i - 1) * t..i * t], &batch[i * t..(i + 1) * t], width) + 1
+    for d in 1..=m {
+        counts[d] += counts[d - 1];
+    }
+    Ok(counts)
+}
+
+fn set_bit(l: &mut [u8], o: usize) {
+    l[o / 8] |= 0x80 >> (o % 8);
+}
+
+/// Sets a key's edges: the second of the record above its first new one, and one on each level from there on.
+fn mark_key(key: &[u8], new: usize, cursors: &mut [usize], edges: &mut [u8]) {
+    if new > 0 {
+        set_bit(edges, cursors[new - 1] - 1);
+    }
+    for (cursor, d) in cursors[new..].iter_mut().zip(new..) {
+        set_bit(edges, *cursor + usize::from(bit_at(key, d)));
+        *cursor += 2;
+    }
+}
+
+/// Sets the edges of all keys, with a cursor for each level.
+fn mark_keys(batch: &[u8], t: usize, cursors: &mut [usize], edges: &mut [u8]) {
+    let mut before = None;
+    for key in batch.chunks_exact(t) {
+        let new = first_new(before, key, cursors.len());
+        if new <= cursors.len() {
+            mark_key(key, new, cursors, edges);
+        }
+        before = Some(key);
+    }
 }
 
 pub fn pack(width: u64, batch: &[u8], out: &mut [u8]) -> Result<usize, u64> {
@@ -441,28 +630,8 @@ pub fn pack(width: u64, batch: &[u8], out: &mut [u8]) -> Result<usize, u64> {
     if batch.len() % t != 0 {
         return Err(10);
     }
-    let n = batch.len() / t;
-    for i in 0..n {
-        let key = &batch[i * t..(i + 1) * t];
-        if u32::from(key[t - 1]) % (1 << (8 * t - m)) != 0 {
-            return Err(11);
-        }
-        if i > 0 && key < &batch[(i - 1) * t..i * t] {
-            return Err(12);
-        }
-    }
-    // counting pass: records of each level, and the members behind them
-    let mut counts = [0usize; MAX_WIDTH + 1];
-    for i in 0..n {
-        let new = first_new(batch, i, t, m);
-        if new <= m {
-            for count in &mut counts[new..=m] {
-                *count += 1;
-            }
-        }
-    }
-    let mut ends = [0; MAX_WIDTH];
-    let mut starts = [0; MAX_WIDTH];
+    let counts = count_records(batch, t, m)?;
+    let (mut starts, mut ends) = ([0; MAX_WIDTH], [0; MAX_WIDTH]);
     let mut bits = 0;
     for d in 0..m {
         starts[d] = bits;
@@ -472,32 +641,12 @@ pub fn pack(width: u64, batch: &[u8], out: &mut [u8]) -> Result<usize, u64> {
             return Err(5);
         }
     }
-    // marking pass: a cursor for each level
-    let mut edges = [0u8; MAX_EDGES / 8];
-    let mut seen = [0usize; MAX_WIDTH + 1];
-    for i in 0..n {
-        let key = &batch[i * t..(i + 1) * t];
-        let new = first_new(batch, i, t, m);
-        if new > m {
-            continue;
-        }
-        for count in &mut seen[new..=m] {
-            *count += 1;
-        }
-        for d in new.saturating_sub(1)..m {
-            let o = starts[d] + 2 * (seen[d] - 1) + usize::from(bit_at(key, d));
-            edges[o / 8] |= 0x80 >> (o % 8);
-        }
-    }
+    let mut edges = vec![0u8; bits.div_ceil(8)];
+    mark_keys(batch, t, &mut starts[..m], &mut edges);
     write(m, counts[m], &ends, &edges, out)
 }
 
 // ---- Union and difference, eight records at a time
-
-/// Record i.
-fn record(l: &[u8], i: usize) -> u8 {
-    l[i / 4] >> (6 - 2 * (i % 4)) & 3
-}
 
 /// Record i set to x.
 fn put_record(l: &mut [u8], i: usize, x: u8) {
@@ -777,13 +926,12 @@ fn compact(queue: &[u8], r: usize, out: &mut [u8]) -> usize {
 /// Level ends from the edges alone. Tells the count.
 fn level_ends(edges: &[u8], records: usize, ends: &mut [usize]) -> usize {
     let roots = usize::from(records > 0);
-    let count = |x: u8| usize::from(TALLIES[usize::from(x)] % 1_024);
     let (mut seen, mut whole, mut ones) = (0, 0, 0);
     for end in ends {
         *end = 2 * (roots + ones);
-        whole += edges[seen..*end / 8].iter().map(|x| count(*x)).sum::<usize>();
+        whole += count_ones(&edges[seen..*end / 8]);
         seen = *end / 8;
-        ones = whole + count((u16::from(edges[seen]) >> (8 - *end % 8)) as u8);
+        ones = whole + ones_of_first(edges[seen], *end % 8);
     }
     roots + ones - records
 }

@@ -5,8 +5,8 @@ use mathlib.Core.Bool.{true, _&&_}
 use native.Mathlib.Omega.{arith}
 use native.Mathlib.Nat.{mul-assoc, mul-le-mul-right, mod-eq-of-lt}
 use lib.ListN.{drop, getD}
-use lib.Seq.{getD-drop}
-use lib.Pow.{pow-pos, pow-add, shl-exact, split}
+use lib.Seq.{getD-drop, drop-drop}
+use lib.Pow.{pow-pos, pow-add, shl-exact, shr-shr, split}
 use lib.Bits.{bitAnd, bitOr, and-le-l, and-le-r, and-mod, or-lt, or-shifted-r, or-shr, or-mod, and-block}
 use lib.Count
 use lib.Dec.{eqb}
@@ -34,7 +34,7 @@ word-lt l (suc n) s =
     omega (arith, p, q, word-lt l n s)
 
 -- one byte more, as the code puts it on
-pub or-more : (l : Bytes) (n : ℕ) → n < 8 → Small l → bitOr (wordIn l n) (getD l n 0 * 2 ^ (8 * n) % 2 ^ 64) ≡ wordIn l (suc n)
+or-more : (l : Bytes) (n : ℕ) → n < 8 → Small l → bitOr (wordIn l n) (getD l n 0 * 2 ^ (8 * n) % 2 ^ 64) ≡ wordIn l (suc n)
 unfolding wordIn
 or-more l n h s =
     ap (bitOr (wordIn l n)) (shl-exact 8 (8 * n) 64 (s n) (omega arith)) ∙ or-shifted-r (getD l n 0) (8 * n) (wordIn l n) (word-lt l n s)
@@ -106,6 +106,20 @@ word-cons l (suc n) =
     let q : getD l (suc n) 0 ≡ w = ap (λ k. getD l k 0) (omega arith) in
     let t : getD l (suc n) 0 * 2 ^ (8 * suc n) ≡ w * 2 ^ (8 * suc n) = ap (λ k. k * 2 ^ (8 * suc n)) q in
     omega (arith, p, g, t, word-cons l n)
+
+-- the first j bytes shifted out
+pub word-rest : (l : Bytes) (j k : ℕ) → Small l → wordIn l (j + k) / 2 ^ (8 * j) ≡ wordIn (drop j l) k
+word-rest l zero k s =
+    let z : 0 + k ≡ k = omega arith in
+    let q : wordIn l k / 1 ≡ wordIn l k = omega arith in
+    ap (λ n. wordIn l n / 1) z ∙ q
+word-rest l (suc j) k s =
+    let z : suc j + k ≡ suc (j + k) = omega arith in
+    let y : 8 * suc j ≡ 8 + 8 * j = omega arith in
+    let d : 1 + j ≡ suc j = omega arith in
+    let f : wordIn l (suc j + k) / 256 ≡ wordIn (drop 1 l) (j + k) = ap (λ n. wordIn l n / 256) z ∙ omega (arith, word-cons l (j + k), s 0) in
+    ap (λ n. wordIn l (suc j + k) / 2 ^ n) y ∙ sym (shr-shr (wordIn l (suc j + k)) 8 (8 * j)) ∙ ap (λ x. x / 2 ^ (8 * j)) f
+    ∙ word-rest (drop 1 l) j k (small-from l 1 s) ∙ ap (λ x. wordIn x k) (drop-drop j 1 l ∙ ap (λ n. drop n l) d)
 
 bits-first : (l : Bytes) (n : ℕ) → noneEmpty (bitsIn l (8 * suc n)) ≡ (noneEmpty (bits8 (getD l 0 0)) && noneEmpty (bitsIn (drop 1 l) (8 * n)))
 bits-first l n =

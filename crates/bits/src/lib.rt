@@ -90,18 +90,13 @@ pub fn word(l: &[u8], at: usize) -> u64
         | ((l[at + 7] as u64) << 56)
 }
 
-// The same of fewer bytes.
+// The same of fewer bytes that have eight up to their end: the bytes before them are shifted out.
 pub fn part_word(l: &[u8], at: usize, k: usize) -> u64
-    requires { ⌜ (k < 8) × (at + k ≤ length (now l)) ⌝ }
+    requires { ⌜ (k < 8) × (8 ≤ at + k) × (at + k ≤ length (now l)) ⌝ }
     ensures { λ r. ⌜ r ≡ wordIn (drop at (now (l .entry))) k ⌝ }
 {
-    let mut x: u64 = 0;
-    let mut i = 0;
-    while i < k {
-        x = x | ((l[at + i] as u64) << (8 * i));
-        i += 1;
-    }
-    x
+    let x = word(l, at + k - 8);
+    x >> (8 * (7 - k)) >> 8
 }
 
 // The set bits of eight bytes.

@@ -40,6 +40,7 @@ placed-room l m n b e h k p q =
       few = omega (arith, p .bits);
       bytes = omega (arith, end-most m b h k);
       levels = omega (arith, p .width);
+      before = omega (arith, p .edges);
       edges = rw (p .edges, p .bits) (omega arith);
       blocks = rw (p .blocks, p .bits) (omega arith);
       sub-blocks = rw (p .sub-blocks, p .bits) (omega arith);

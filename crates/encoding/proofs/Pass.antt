@@ -107,36 +107,36 @@ module _ (l : Bytes) (e : Encoding) where
         (a, omega (arith, a, t, x .0))
 
     -- the bytes of sub-block j
-    module _ (upto : ℕ) (h : subBlockBits * j < e .bits) (u : upto ≡ min (64 * j + 64) (e .bits / 8)) where
+    -- the bytes of sub-block j, as many as are whole
+    module _ (size : ℕ) (h : subBlockBits * j < e .bits) (u : size ≡ min 64 (e .bits / 8 - 64 * j)) where
       abbrev pub partBits : List Bool
-      partBits = bitsIn (drop (e .edges + 64 * j) l) (8 * (e .edges + upto - (e .edges + 64 * j)))
+      partBits = bitsIn (drop (e .edges + 64 * j) l) (8 * size)
 
-      part-here : partBits ≡ bitsIn (drop (64 * j) (drop (e .edges) l)) (8 * (upto - 64 * j))
-      part-here =
-          let z : 8 * (e .edges + upto - (e .edges + 64 * j)) ≡ 8 * (upto - 64 * j) = omega arith in
-          ap₂ bitsIn (sym (drop-drop (64 * j) (e .edges) l)) z
+      part-here : partBits ≡ bitsIn (drop (64 * j) (drop (e .edges) l)) (8 * size)
+      part-here = ap (λ y. bitsIn y (8 * size)) (sym (drop-drop (64 * j) (e .edges) l))
 
       pub part-wrong : (noneEmpty partBits ≡ true → ⊥) → WholeRight l e → ⊥
       part-wrong b w =
           let y : Bytes = drop (e .edges) l in
+          let upto : ℕ = 64 * j + size in
           let z : 8 * (e .bits / 8) ≡ 8 * upto + 8 * (e .bits / 8 - upto) = omega (arith, u) in
-          let v : 8 * upto ≡ 8 * (64 * j) + 8 * (upto - 64 * j) = omega (arith, u) in
+          let v : 8 * upto ≡ 8 * (64 * j) + 8 * size = omega arith in
           let f : noneEmpty (bitsIn y (8 * upto)) ≡ true = both (noneEmpty (bitsIn y (8 * upto))) (noneEmpty (bitsIn (drop upto y) (8 * (e .bits / 8 - upto)))) (sym (ap (λ m. noneEmpty (bitsIn y m)) z ∙ full-more y upto (8 * (e .bits / 8 - upto))) ∙ w .1) .0 in
-          let s : noneEmpty (bitsIn (drop (64 * j) y) (8 * (upto - 64 * j))) ≡ true =
-          both (noneEmpty (bitsIn y (8 * (64 * j)))) (noneEmpty (bitsIn (drop (64 * j) y) (8 * (upto - 64 * j)))) (sym (ap (λ m. noneEmpty (bitsIn y m)) v ∙ full-more y (64 * j) (8 * (upto - 64 * j))) ∙ f) .1 in
+          let s : noneEmpty (bitsIn (drop (64 * j) y) (8 * size)) ≡ true =
+          both (noneEmpty (bitsIn y (8 * (64 * j)))) (noneEmpty (bitsIn (drop (64 * j) y) (8 * size))) (sym (ap (λ m. noneEmpty (bitsIn y m)) v ∙ full-more y (64 * j) (8 * size)) ∙ f) .1 in
           b (ap noneEmpty part-here ∙ s)
 
       pub going-next : (k : ℕ) → (noneEmpty partBits ≡ true) × (k ≡ ones partBits) → EntriesAt l e j n → Going l e (j + 1) (n + k)
       going-next k t x =
           let y : Bytes = drop (e .edges) l in
           let d : done e j ≡ 64 * j = omega arith in
-          let v : 8 * done e (j + 1) ≡ 8 * (64 * j) + 8 * (upto - 64 * j) = omega (arith, u) in
+          let v : 8 * done e (j + 1) ≡ 8 * (64 * j) + 8 * size = omega (arith, u) in
           let c : n ≡ ones (bitsIn y (8 * (64 * j))) = rw d at (g .count) in
           let f : noneEmpty (bitsIn y (8 * (64 * j))) ≡ true = rw d at (g .full) in
           let r = entries-are h x in
           record {
-            count = omega (arith, c, t .1, ap ones part-here, ap (λ m. ones (bitsIn y m)) v, ones-more y (64 * j) (8 * (upto - 64 * j)));
-            full = ap (λ m. noneEmpty (bitsIn y m)) v ∙ full-more y (64 * j) (8 * (upto - 64 * j)) ∙ ap₂ _&&_ f (ap noneEmpty (sym part-here) ∙ t .0);
+            count = omega (arith, c, t .1, ap ones part-here, ap (λ m. ones (bitsIn y m)) v, ones-more y (64 * j) (8 * size));
+            full = ap (λ m. noneEmpty (bitsIn y m)) v ∙ full-more y (64 * j) (8 * size) ∙ ap₂ _&&_ f (ap noneEmpty (sym part-here) ∙ t .0);
             blocks = below-next (λ i. numberAt 8 l (e .blocks + 8 * (i / 128)) ≡ blockOnes (edgesAt l e) (i / 128)) j (g .blocks) (r .0);
             sub-blocks = below-next (λ i. numberAt 2 l (e .«sub_blocks» + 2 * i) ≡ subBlockOnes (edgesAt l e) i) j (g .sub-blocks) (r .1);
           }

@@ -40,6 +40,7 @@ pub record Room (l : Bytes) (e : Encoding) : Type 0 where
   pub few : e .bits ≤ maxEdges
   pub bytes : length l ≤ maxBytes
   pub levels : start3 + 3 + levelBytes (e .width) ≤ length l
+  pub before : 8 ≤ e .edges
   pub edges : e .edges + edgeBytes (e .bits) ≤ length l
   pub blocks : e .blocks + blockBytes (e .bits) ≤ length l
   pub sub-blocks : e .«sub_blocks» + subBlockBytes (e .bits) ≤ length l

@@ -329,9 +329,21 @@ fn scan_words(l: &[u8], from: usize, words: usize) -> Scan
     Scan { full, ones: n }
 }
 
-// The bytes from..upto of a sub-block that is not whole: words, then fewer than eight bytes as one.
+// A whole sub-block: its eight words, by a loop of its own when compiled.
+fn sub_block_ones(l: &[u8], from: usize) -> Tallied
+    requires { ⌜ from + 64 ≤ length (now l) ⌝ }
+    ensures { λ r. ⌜ Full (drop from (now (l .entry))) 64 r ⌝ }
+{
+    let p = scan_words(l, from, SUB_BLOCK_BYTES / 8);
+    if p.full != RECORDS {
+        return Tallied::Wrong;
+    }
+    Tallied::Ones(p.ones)
+}
+
+// Fewer bytes, from..upto: whole words, then the bytes behind them as one.
 fn part_ones(l: &[u8], from: usize, upto: usize) -> Tallied
-    requires { ⌜ (from ≤ upto) × (upto ≤ length (now l)) × (upto ≤ from + 64) ⌝ }
+    requires { ⌜ (8 ≤ from) × (from ≤ upto) × (upto ≤ length (now l)) × (upto ≤ from + 64) ⌝ }
     ensures { λ r. ⌜ Full (drop from (now (l .entry))) (upto - from) r ⌝ }
 {
     let size = upto - from;
@@ -348,46 +360,40 @@ fn part_ones(l: &[u8], from: usize, upto: usize) -> Tallied
     Tallied::Ones(n)
 }
 
-// The bytes from..upto of a sub-block: its eight words by a loop of their own when compiled.
-fn bytes_ones(l: &[u8], from: usize, upto: usize) -> Tallied
-    requires { ⌜ (from ≤ upto) × (upto ≤ length (now l)) × (upto ≤ from + 64) ⌝ }
-    ensures { λ r. ⌜ Full (drop from (now (l .entry))) (upto - from) r ⌝ }
-{
-    if upto - from < SUB_BLOCK_BYTES {
-        return part_ones(l, from, upto);
-    }
-    let p = scan_words(l, from, SUB_BLOCK_BYTES / 8);
-    if p.full != RECORDS {
-        return Tallied::Wrong;
-    }
-    Tallied::Ones(p.ones)
-}
-
 // One pass over the whole edge bytes, sub-block by sub-block: no record is empty, and both index fields are right.
 fn whole_ones(l: &[u8], e: Encoding) -> Tallied
     requires { ⌜ Room (now l) e ⌝ }
     ensures { λ r. ⌜ Whole (now (l .entry)) e r ⌝ }
 {
     let edges = e.edges;
-    let whole = e.bits / 8;
-    let end = started_by(e.bits, Encoding::SUB_BLOCK_BITS);
+    let whole = e.bits / Encoding::SUB_BLOCK_BITS;
     let mut base = 0;
     let mut n = 0;
     let mut j = 0;
-    while j < end {
+    while j < whole {
         base = block_base(j, base, n);
         if !entries_agree(l, e, j, base, n) {
             return Tallied::Wrong;
         }
-        let from = SUB_BLOCK_BYTES * j;
-        let upto = lesser(from + SUB_BLOCK_BYTES, whole);
-        let Tallied::Ones(k) = bytes_ones(l, edges + from, edges + upto) else {
+        let Tallied::Ones(k) = sub_block_ones(l, edges + SUB_BLOCK_BYTES * j) else {
             return Tallied::Wrong;
         };
         n += k;
         j += 1;
     }
-    Tallied::Ones(n)
+    // The last, if it is not whole.
+    if e.bits % Encoding::SUB_BLOCK_BITS == 0 {
+        return Tallied::Ones(n);
+    }
+    base = block_base(j, base, n);
+    if !entries_agree(l, e, j, base, n) {
+        return Tallied::Wrong;
+    }
+    let Tallied::Ones(rest) = part_ones(l, edges + SUB_BLOCK_BYTES * j, edges + e.bits / 8) else {
+        return Tallied::Wrong;
+    };
+    let ones = n + rest;
+    Tallied::Ones(ones)
 }
 
 // What the lowest of the used bits of a byte counts.

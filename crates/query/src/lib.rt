@@ -5,7 +5,7 @@ ghost use mathlib.Core.Bool.{true, false, _&&_, not, _||_};
 ghost use mathlib.Core.List.{[]};
 ghost use lib.ListN.{length, getD};
 ghost use lib.Dec.{eqb, leb, ltb};
-ghost use Rattle.loes.specs.Limits.{maxWidth, maxEdges, maxBytes, blockBits, subBlockBits, subBlocks};
+ghost use Rattle.loes.specs.Limits.{maxWidth, maxEdges, maxBytes, blockBits, subBlockBits};
 ghost use Rattle.loes.specs.Bytes.{bit, bitsIn, byteOf, packBits, front};
 ghost use Rattle.loes.specs.Edges.{ones, onesBefore};
 ghost use Rattle.loes.specs.Entry.{keyBytes, keysOf, count, edgesOf};

@@ -134,6 +134,21 @@ macro_rules! differential_tests {
         }
 
         #[test]
+        fn records_emptied() {
+            cases::rounds("records_emptied", 1, cases::emptied::<$subject>);
+        }
+
+        #[test]
+        fn searches_where_levels_change() {
+            cases::rounds("searches_where_levels_change", 1, cases::search_limits::<$subject>);
+        }
+
+        #[test]
+        fn batches_where_rooms_or_words_change() {
+            cases::rounds("batches_where_rooms_or_words_change", 1, cases::batch_limits::<$subject>);
+        }
+
+        #[test]
         fn boundaries() {
             cases::rounds("boundaries", 1, cases::boundaries::<$subject>);
         }

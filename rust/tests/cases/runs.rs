@@ -128,6 +128,85 @@ pub fn join_limits<S: Subject>(rng: &mut Rng) {
     }
 }
 
+/// An edge moved to the record beside it leaves an empty record and every number right: at each place of a word and of a
+/// sub-block, and in the bytes behind the last whole word.
+pub fn emptied<S: Subject>(rng: &mut Rng) {
+    for records in (12..330).step_by(3) {
+        let laid = set_with_records(rng, 9, records).lay();
+        let single = |i: usize| laid.edges[2 * i] != laid.edges[2 * i + 1];
+        for i in 0..records - 1 {
+            if !single(i) || !single(i + 1) || laid.ends.contains(&(2 * i + 2)) {
+                continue;
+            }
+            for moved in [[true, true, false, false], [false, false, true, true]] {
+                let mut edges = laid.edges.clone();
+                edges[2 * i..2 * i + 4].copy_from_slice(&moved);
+                let (blocks, sub_blocks) = plain::index_bodies(&edges);
+                let packed = plain::pack_bits(&edges);
+                let bytes = plain::fields(9, laid.count(), &laid.ends, &packed, &blocks, &sub_blocks);
+                assert_eq!(plain::read(&bytes).err(), Some(7));
+                assert_eq!(S::open(&bytes).err(), Some(7), "record {i} of {records} and the next");
+            }
+        }
+    }
+}
+
+/// Every member found by its index, and its index by it.
+pub fn check_members<S: Subject>(laid: &Laid) {
+    let bytes = laid.encode();
+    let (opened, _) = S::open(&bytes).unwrap();
+    let mut key = vec![0; key_len(laid.width())];
+    for (i, member) in laid.set.keys.iter().enumerate() {
+        let answer = S::ask_opened(&opened, &Question::KeyAt(i as u64), &mut key);
+        assert_eq!((answer, &key), (Ok(Some(key.len() as u64)), member), "key {i}");
+        assert_eq!(S::ask_opened(&opened, &Question::IndexOf(member.clone()), &mut []), Ok(Some(i as u64)));
+    }
+}
+
+/// Levels of just so many records that a search begins elsewhere or a level is counted otherwise, and levels of many sub-blocks
+/// and blocks: all of one size, growing, and with most keys behind one prefix.
+pub fn search_limits<S: Subject>(rng: &mut Rng) {
+    for n in [63, 64, 65, 126, 127, 128, 129, 130, 131, 255, 257, 700, 3_000] {
+        for width in [13, 24, 61] {
+            let spread = (0..n).map(|i| number_key(width, (i << (width.min(40) - 1)) / n)).collect::<Vec<_>>();
+            let dense = (0..n).map(|i| number_key(width, i)).collect::<Vec<_>>();
+            let uneven = (0..n).map(|i| if i % 9 == 0 { random_key(rng, width) } else { number_key(width, i) }).collect::<Vec<_>>();
+            for keys in [spread, dense, uneven] {
+                let set = Set::new(width, keys);
+                let bytes = check_pack::<S>(rng, width as u64, &batch_of(&set)).unwrap();
+                let laid = set.lay();
+                check_read::<S>(rng, &bytes, &Ok(laid.clone()), 4);
+                check_members::<S>(&laid);
+                check_keys::<S>(&laid);
+            }
+        }
+    }
+}
+
+/// Batches of just so many bytes that pack takes a larger room; and neighbours that differ first in each bit.
+pub fn batch_limits<S: Subject>(rng: &mut Rng) {
+    for width in [8, 9, 24, 32, 64, 65, 200, 256] {
+        let t = key_len(width);
+        for n in 1_024 / t - 1..=1_024 / t + 2 {
+            let mut keys: Vec<_> = (0..n).map(|_| random_key(rng, width)).collect();
+            keys.sort();
+            check_pack::<S>(rng, width as u64, &keys.concat());
+        }
+    }
+    for width in [7, 55, 56, 57, 63, 64, 65, 72, 127, 128, 129, 193, 255, 256] {
+        for d in 0..width {
+            let key = random_key(rng, width);
+            let mut other = random_tail(rng, &key, width, d);
+            if plain::bit(&other, d) == plain::bit(&key, d) {
+                flip(&mut other, d);
+            }
+            for keys in [[&key, &other], [&other, &key], [&key, &key]] {
+                check_pack::<S>(rng, width as u64, &[&keys[0][..], &keys[1][..]].concat());
+            }
+        }
+    }
+}
+
 /// Where a sub-block, a block or a byte is just filled.
 pub fn boundaries<S: Subject>(rng: &mut Rng) {
     for bits in [510, 512, 514, 1_022, 1_024, 1_026, 4_096, 65_024, 65_534, 65_536, 65_538, 66_048, 131_072, 131_074] {
@@ -142,6 +221,7 @@ pub fn boundaries<S: Subject>(rng: &mut Rng) {
             }
             let bytes = check_pack::<S>(rng, *width as u64, &batch_of(&set)).unwrap();
             check_read::<S>(rng, &bytes, &Ok(laid.clone()), 12);
+            check_members::<S>(&laid);
             check_keys::<S>(&laid);
             let part = Set::new(*width, set.keys.iter().filter(|_| rng.one_in(2)).cloned());
             check_join::<S>(rng, &laid, &part.lay());
@@ -188,6 +268,7 @@ pub fn at_the_limit<S: Subject>(rng: &mut Rng) {
             S::pack(width as u64, &batch, out)
         });
         check_read::<S>(rng, &bytes, &Ok(laid.clone()), 20);
+        check_members::<S>(&laid);
         check_keys::<S>(&laid);
         // one record more
         let more = set_with_records(rng, width, 262_141);

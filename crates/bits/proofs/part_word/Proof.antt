@@ -1,71 +1,49 @@
 use denote.Ref.{now}
-use mathlib.Core.Path.{_≡_, refl, ap, _∙_}
-use Prim.Native.Nat.{suc, _+_, _-_, _≤_}
+use mathlib.Core.Path.{_≡_, ap, _∙_}
+use Prim.Native.Nat.{ℕ, _+_, _-_, _*_, _/_, _^_}
 use native.Mathlib.Omega.{arith}
 use lib.ListN.{drop}
+use lib.Seq.{drop-drop}
+use lib.Pow.{shr-shr}
+use Rattle.loes.specs.Bytes.{Bytes}
 use Rattle.bits.specs.Words.{wordIn}
-use Rattle.bits.proofs.Words.{Small, word-next}
+use Rattle.bits.proofs.Words.{small-from, word-rest}
+use borrow.Author.Needs.{needs}
 use Rattle.bits.proofs.part_word.Statement.{statement}
 use Rattle.bits.proofs.part_word.Tie as tie
 
-abbrev Inv-loop : tie.InvT-loop
-Inv-loop l at k x₀ i₀ x i = (i ≤ k) × (x ≡ wordIn (drop at l) i)
+add-word : tie.Need-add-word
+add-word c = search needs
 
-abbrev μ-loop : tie.MeasureT-loop
-μ-loop l at k x₀ i₀ x i = k - i
+sub-word : tie.Need-sub-word
+sub-word c = search needs
 
-loop-holds : tie.Need-loop-holds Inv-loop μ-loop
-unfolding wordIn
-loop-holds c = (omega arith, refl)
+word-requires : tie.Need-word-requires
+word-requires c κs = search needs
 
-add-x : tie.Need-add-x Inv-loop μ-loop
-add-x c = omega arith
+sub-result : tie.Need-sub-result
+sub-result c = search needs
 
-shared-slice-read-x : tie.Need-shared-slice-read-x Inv-loop μ-loop
-shared-slice-read-x c = omega arith
+mul-result : tie.Need-mul-result
+mul-result c = search needs
 
-cast-x : tie.Need-cast-x Inv-loop μ-loop
-cast-x c = let h = c .before .before in omega (arith, c .shared-slice-known .given (h .before .args .at + h .loop .i))
+shr-result : tie.Need-shr-result
+shr-result c = search needs
 
-mul-x : tie.Need-mul-x Inv-loop μ-loop
-mul-x c = omega arith
-
-shl-x : tie.Need-shl-x Inv-loop μ-loop
-shl-x c = omega arith
-
-add-i : tie.Need-add-i Inv-loop μ-loop
-add-i c = omega arith
-
-loop-less : tie.Need-loop-less Inv-loop μ-loop
-loop-less c = omega arith
-
-loop-again : tie.Need-loop-again Inv-loop μ-loop
-loop-again c =
-    let h = c .before .before in
-    let a = h .before .args in
-    let s : Small (now (a .l)) = λ i. c .shared-slice-known .given i .fits in
-    let z : suc (h .loop .i) ≡ h .loop .i + 1 = omega arith in
-    (omega arith, word-next (now (a .l)) (a .at) s (h .loop .i) (omega arith) (h .loop .inv .1) ∙ ap (wordIn (drop (a .at) (now (a .l)))) z)
-
-returns : tie.Need-returns Inv-loop μ-loop
+returns : tie.Need-returns
 returns c =
-    let h = c .before .loop in
-    let z : h .i ≡ c .before .before .args .k = omega arith in
-    rw z at (h .inv .1)
+    let a = c .before .before .args in
+    let l = now (a .l) in
+    let from : ℕ = a .at + a .k - 8 in
+    let j : ℕ = 8 - a .k in
+    let w : Bytes = drop from l in
+    let x : ℕ = c .word .result in
+    let y : 8 * (7 - a .k) + 8 ≡ 8 * j = omega arith in
+    let z : 8 ≡ j + a .k = omega arith in
+    let p : from + j ≡ a .at = omega arith in
+    shr-shr x (8 * (7 - a .k)) 8 ∙ ap (λ n. x / 2 ^ n) y ∙ ap (λ v. v / 2 ^ (8 * j)) (c .word .ensures ∙ ap (wordIn w) z)
+    ∙ word-rest w j (a .k) (small-from l from (λ i. c .before .shared-slice-known .given i .fits))
+    ∙ ap (λ v. wordIn v (a .k)) (drop-drop j from l ∙ ap (λ n. drop n l) p)
 
 pub part-word-spec : {M : Type 1} → statement M
-part-word-spec =
-    tie.close
-    (tie.spec
-    Inv-loop
-    μ-loop
-    loop-holds
-    add-x
-    shared-slice-read-x
-    cast-x
-    mul-x
-    shl-x
-    add-i
-    loop-less
-    loop-again
-    returns)
+part-word-spec = tie.close (tie.spec add-word sub-word word-requires sub-result mul-result shr-result returns)

@@ -84,7 +84,7 @@ sub-part-word : tie.Need-sub-part-word
 sub-part-word c = omega arith
 
 part-word-requires : tie.Need-part-word-requires
-part-word-requires c κs = (omega arith, omega arith)
+part-word-requires c κs = (omega arith, omega arith, omega arith)
 
 mul-if2 : tie.Need-mul-if2
 mul-if2 c = omega arith
