@@ -108,20 +108,32 @@ static size_t packed(size_t n, chosen *has, uint8_t *to) {
 
 typedef uint64_t timed(const struct build *);
 
-static uint64_t opening(const struct build *b) { return b->open_(first, first_bytes).count; }
-static uint64_t packing(const struct build *b) { return b->pack_(8 * key_bytes, batch, batch_bytes, out, ROOM).value; }
-static uint64_t uniting(const struct build *b) { return b->union_(first, first_bytes, second, second_bytes, out, ROOM).value; }
-static uint64_t subtracting(const struct build *b) { return b->difference_(first, first_bytes, second, second_bytes, out, ROOM).value; }
+static uint64_t told(uint64_t sum, uint64_t x, uint64_t y) { return 31 * (31 * sum + x) + y; }
+static uint64_t opening(const struct build *b) {
+    loes_opened e = b->open_(first, first_bytes);
+    return told(told(e.kind, e.width, e.count), e.bits, e.edges);
+}
+static uint64_t written(loes_answer a) {
+    if (a.kind != LOES_VALUE) exit(3);
+    return a.value;
+}
+static uint64_t packing(const struct build *b) { return written(b->pack_(8 * key_bytes, batch, batch_bytes, out, ROOM)); }
+static uint64_t uniting(const struct build *b) { return written(b->union_(first, first_bytes, second, second_bytes, out, ROOM)); }
+static uint64_t subtracting(const struct build *b) { return written(b->difference_(first, first_bytes, second, second_bytes, out, ROOM)); }
 
 /* A question put to bytes, and the same behind the check ASKED times. */
 #define QUESTION(name, ...) \
     static uint64_t name(const struct build *b) { \
         const size_t i = 0; \
-        return b->name##_(first, first_bytes, __VA_ARGS__).value; \
+        loes_answer a = b->name##_(first, first_bytes, __VA_ARGS__); \
+        return told(0, a.kind, a.value); \
     } \
     static uint64_t opened_##name(const struct build *b) { \
         uint64_t sum = 0; \
-        for (size_t i = 0; i < ASKED; i++) sum = 31 * sum + b->opened_##name##_(opened, first, first_bytes, __VA_ARGS__).value; \
+        for (size_t i = 0; i < ASKED; i++) { \
+            loes_answer a = b->opened_##name##_(opened, first, first_bytes, __VA_ARGS__); \
+            sum = told(sum, a.kind, a.value); \
+        } \
         return sum; \
     }
 QUESTION(contains, asked[i], key_bytes)
@@ -132,17 +144,18 @@ QUESTION(rank, offsets[i])
 
 /* The first step, and every step behind the check, with the test of the cursor and without. */
 static uint64_t advance(const struct build *b) {
-    memset(path, 0, sizeof path);
-    return b->advance_(first, first_bytes, LOES_BEFORE, path, LOES_CURSOR_OFFSETS, out, key_bytes).value;
+    memset(path, 0, 8 * key_bytes * sizeof *path);
+    loes_step step = b->advance_(first, first_bytes, LOES_BEFORE, path, LOES_CURSOR_OFFSETS, out, key_bytes);
+    return told(step.kind, step.value, step.state);
 }
 #define WALK(name) \
     static uint64_t name(const struct build *b) { \
         loes_step step = {LOES_VALUE, 1, LOES_BEFORE}; \
         uint64_t sum = 0; \
         memset(path, 0, sizeof path); \
-        while (step.value > 0) { \
+        while (step.kind == LOES_VALUE && step.value > 0) { \
             step = b->name##_(opened, first, first_bytes, step.state, path, LOES_CURSOR_OFFSETS, out, key_bytes); \
-            sum = 31 * sum + out[key_bytes - 1]; \
+            sum = told(sum, step.kind, out[key_bytes - 1]); \
         } \
         return sum; \
     }
@@ -151,11 +164,12 @@ WALK(opened_next)
 
 /* ---- Measuring ---- */
 
-/* A call that does so many things, of bytes written at the front of `out`. */
+/* What a call takes for each of so many things that it does. */
 static void measure(const char *name, const char *call, timed *run, size_t things) {
     double least[BUILDS];
     uint64_t result = 0;
     int calls = 1, turns = repetitions;
+    run(&builds[0]);
     double start = now();
     run(&builds[0]);
     double once = now() - start;
@@ -164,17 +178,17 @@ static void measure(const char *name, const char *call, timed *run, size_t thing
     for (int k = 0; k < build_count; k++) least[k] = 1e18;
     for (int turn = 0; turn < turns; turn++)
         for (int k = 0; k < build_count; k++) {
-            uint64_t told = 0;
+            uint64_t number = 0;
             memset(out, 0, sizeof out);
             start = now();
-            for (int i = 0; i < calls; i++) told = run(&builds[k]);
+            for (int i = 0; i < calls; i++) number = run(&builds[k]);
             double time = (now() - start) / calls;
             if (time < least[k]) least[k] = time;
             if (turn == 0 && k == 0) {
-                result = told;
+                result = number;
                 memcpy(expected, out, sizeof out);
             }
-            if (told != result || memcmp(out, expected, sizeof out) != 0) wrong = 1;
+            if (number != result || memcmp(out, expected, sizeof out) != 0) wrong = 1;
         }
     printf("| %s | %s | %.1f |", name, call, least[0] / things);
     for (int k = 1; k < build_count; k++) printf(" %.1f | %.3f |", least[k] / things, least[k] / least[0]);

@@ -549,21 +549,25 @@ fn write(width: usize, count: usize, ends: &[usize], edges: &[u8], out: &mut [u8
 
 // ---- Pack
 
-/// How many bits two keys agree in, from the first on: by words, then by bytes.
-fn common_prefix(x: &[u8], y: &[u8], width: usize) -> usize {
-    let ((x, x_rest), (y, y_rest)) = (x.as_chunks(), y.as_chunks());
-    for (j, (p, q)) in x.iter().zip(y).enumerate() {
-        let difference = u64::from_be_bytes(*p) ^ u64::from_be_bytes(*q);
+/// How many bytes two keys agree in, from the first on: by words, then one by one.
+fn same_bytes(x: &[u8], y: &[u8]) -> usize {
+    let ((p, p_rest), (q, q_rest)) = (x.as_chunks(), y.as_chunks());
+    for (j, (p, q)) in p.iter().zip(q).enumerate() {
+        let difference = u64::from_le_bytes(*p) ^ u64::from_le_bytes(*q);
         if difference != 0 {
-            return 64 * j + difference.leading_zeros() as usize;
+            return 8 * j + difference.trailing_zeros() as usize / 8;
         }
     }
-    for (j, (p, q)) in x_rest.iter().zip(y_rest).enumerate() {
-        if p != q {
-            return 64 * x.len() + 8 * j + (p ^ q).leading_zeros() as usize;
-        }
+    8 * p.len() + p_rest.iter().zip(q_rest).take_while(|(x, y)| x == y).count()
+}
+
+/// How many bits two keys agree in, from the first on.
+fn common_prefix(x: &[u8], y: &[u8], width: usize) -> usize {
+    let j = same_bytes(x, y);
+    match (x.get(j), y.get(j)) {
+        (Some(p), Some(q)) => 8 * j + (p ^ q).leading_zeros() as usize,
+        _ => width,
     }
-    width
 }
 
 /// The first length of which the key has a prefix that none before it has.
@@ -601,15 +605,15 @@ fn set_bit(l: &mut [u8], o: usize) {
 /// Sets a key's edges: the second of the record above its first new one, and one on each level from there on.
 fn mark_key(key: &[u8], new: usize, cursors: &mut [usize], edges: &mut [u8]) {
     if new > 0 {
-        set_bit(edges, cursors[new - 1] - 1);
+        set_bit(edges, 2 * cursors[new - 1] - 1);
     }
     for (cursor, d) in cursors[new..].iter_mut().zip(new..) {
-        set_bit(edges, *cursor + usize::from(bit_at(key, d)));
-        *cursor += 2;
+        set_bit(edges, 2 * *cursor + usize::from(bit_at(key, d)));
+        *cursor += 1;
     }
 }
 
-/// Sets the edges of all keys, with a cursor for each level.
+/// Sets the edges of all keys, with a cursor for each level, behind its last record.
 fn mark_keys(batch: &[u8], t: usize, cursors: &mut [usize], edges: &mut [u8]) {
     let mut before = None;
     for key in batch.chunks_exact(t) {
@@ -634,7 +638,7 @@ pub fn pack(width: u64, batch: &[u8], out: &mut [u8]) -> Result<usize, u64> {
     let (mut starts, mut ends) = ([0; MAX_WIDTH], [0; MAX_WIDTH]);
     let mut bits = 0;
     for d in 0..m {
-        starts[d] = bits;
+        starts[d] = bits / 2;
         bits += 2 * counts[d];
         ends[d] = bits;
         if bits > MAX_EDGES {

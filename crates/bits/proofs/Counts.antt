@@ -60,9 +60,9 @@ byte-more l n =
     ap (bitsIn l) z ∙ bits-more l n 8 ∙ ap (λ x. bitsIn l (8 * n) ++ x) (byte-bits l n 8 (omega arith))
 
 -- from a byte on, one byte more
-pub byte-next : (l : Bytes) (from i : ℕ) → from ≤ i
+pub byte-behind : (l : Bytes) (from i : ℕ) → from ≤ i
     → ones (bitsIn (drop from l) (8 * (i + 1 - from))) ≡ ones (bitsIn (drop from l) (8 * (i - from))) + ones (bits8 (getD l i 0))
-byte-next l from i h =
+byte-behind l from i h =
     let z : i + 1 - from ≡ suc (i - from) = omega arith in
     let q : from + (i - from) ≡ i = omega arith in
     rw (z, byte-more (drop from l) (i - from), ones-append, getD-drop from l (i - from) 0, q)

@@ -1,4 +1,4 @@
-// Bytes and bits: the three counts, bits and numbers in bytes, and the constant tables.
+// Bytes and bits: the three counts, bits, numbers and words in bytes, and the constant tables.
 ghost use Prim.Native.Nat.{_+_, _-_, _*_, _/_, _^_, _<_, _≤_};
 ghost use mathlib.Core.Path.{_≡_};
 ghost use lib.ListN.{length, drop};
@@ -110,7 +110,7 @@ pub fn word_ones(l: &[u8], at: usize) -> usize
 // The set bits of bytes from..upto, at most 64 of them, by the table.
 pub fn tally_bytes(l: &[u8], t: &[u8], from: usize, upto: usize) -> usize
     requires { ⌜ (from ≤ upto) × (upto ≤ length (now l)) × (upto ≤ from + 64) × Tallies (now t) ⌝ }
-    ensures { λ r. ⌜ (r ≡ ones (bitsIn (drop from (now (l .entry))) (8 * (upto - from)))) × (r ≤ 512) ⌝ }
+    ensures { λ r. ⌜ (r ≡ ones (bitsIn (drop from (now (l .entry))) (8 * (upto - from)))) × (r ≤ 8 * 64) ⌝ }
 {
     let mut sum: usize = 0;
     let mut i = from;

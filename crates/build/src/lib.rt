@@ -85,7 +85,7 @@ pub struct Seen {
 // Counts on by whole words, to less than 8 bytes before `upto`.
 fn count_words(edges: &[u8], s: Seen, upto: usize) -> Seen
     requires { ⌜ Counts (now edges) s × (s .bytes ≤ upto) × (upto ≤ length (now edges)) × (length (now edges) ≤ maxEdges / 8) ⌝ }
-    ensures { λ r. ⌜ Counts (now (edges .entry)) r × (r .bytes ≤ upto) ⌝ }
+    ensures { λ r. ⌜ Counts (now (edges .entry)) r × (r .bytes ≤ upto) × (upto < r .bytes + 8) ⌝ }
 {
     let mut n = s.ones;
     let mut i = s.bytes;

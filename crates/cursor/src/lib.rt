@@ -171,8 +171,8 @@ fn record_at(l: &[u8], e: Encoding, r: RecordIndex) -> usize
     ensures { λ x. ⌜ x ≡ recordCode (edgesOf (entryIn (now (l .entry)))) (r .0) ⌝ }
 {
     let at = e.edges + r.0 / 4;
-    let x = l[at];
-    ((x >> (6 - 2 * (r.0 % 4))) % 4) as usize
+    let z = records::record_in(l[at], r.0 % 4);
+    z as usize
 }
 
 // Whether the next set bit is in the same record, from a set bit: the record has both edges, and this is the first. No branch goes by the edges.
@@ -249,7 +249,8 @@ fn first_path(l: &[u8], e: Encoding, path: &mut [usize])
         let x = first_edge(l, e, RecordIndex(r));
         let o = x.0;
         path[d] = o;
-        r = encoding::level_end(l, e, d) / 2;
+        let end = encoding::level_end(l, e, d);
+        r = end.0 / 2;
         d += 1;
     }
 }

@@ -106,7 +106,6 @@ module _ (l : Bytes) (e : Encoding) where
         ] in
         (a, omega (arith, a, t, x .0))
 
-    -- the bytes of sub-block j
     -- the bytes of sub-block j, as many as are whole
     module _ (size : ℕ) (h : subBlockBits * j < e .bits) (u : size ≡ min 64 (e .bits / 8 - 64 * j)) where
       abbrev pub partBits : List Bool

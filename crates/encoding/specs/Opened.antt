@@ -34,7 +34,7 @@ pub record Placed (m n b : ℕ) (e : Encoding) : Type 0 where
 unfoldable pub edgesAt : Bytes → Encoding → List Bool
 edgesAt l e = bitsIn (drop (e .edges) l) (e .bits)
 
--- the bodies of fields 3 to 6 lie in the bytes
+-- the bodies of fields 3 to 6 lie in the bytes, with eight bytes and more before field 4's
 pub record Room (l : Bytes) (e : Encoding) : Type 0 where
   pub narrow : e .width ≤ maxWidth
   pub few : e .bits ≤ maxEdges

@@ -230,7 +230,7 @@ fn indexed_ones(l: &[u8], t: &[u8], e: Encoding, o: EdgeOffset) -> usize
     block + sub_block + whole + (t[x] as usize)
 }
 
-// The same if n are set before one near before it: its byte and those behind it are counted, less the bits before it in its byte.
+// The set bits before an offset, if n are set before another that is near before it: the other's byte and those behind it are counted, less the bits before the other in its byte.
 fn ones_near(l: &[u8], t: &[u8], e: Encoding, from: EdgeOffset, n: usize, o: EdgeOffset) -> usize
     requires { ⌜ Room (now l) e × Tallies (now t) × (from .0 < o .0) × (o .0 ≤ from .0 + near) × (o .0 ≤ e .bits) × (n ≡ onesBefore (edgesAt (now l) e) (from .0)) ⌝ }
     ensures { λ r. ⌜ r ≡ onesBefore (edgesAt (now (l .entry)) e) (o .0) ⌝ }
@@ -245,7 +245,7 @@ fn ones_near(l: &[u8], t: &[u8], e: Encoding, from: EdgeOffset, n: usize, o: Edg
     n + whole + (t[x] as usize) - (t[before] as usize)
 }
 
-// The same if n are set before one that is not behind it.
+// The set bits before an offset, if n are set before another that is not behind it.
 fn ones_on(l: &[u8], t: &[u8], e: Encoding, from: EdgeOffset, n: usize, o: EdgeOffset) -> usize
     requires { ⌜ Room (now l) e × Counted (now l) e × Tallies (now t) × (from .0 ≤ o .0) × (o .0 ≤ e .bits) × (n ≡ onesBefore (edgesAt (now l) e) (from .0)) ⌝ }
     ensures { λ r. ⌜ r ≡ onesBefore (edgesAt (now (l .entry)) e) (o .0) ⌝ }
@@ -427,7 +427,7 @@ fn last_ones(l: &[u8], e: Encoding) -> Tallied
     Tallied::Ones(n)
 }
 
-// Whether every level ends at 0, as in the empty set.
+// Whether every level ends at 0, as in the empty set: a short loop, with nothing to count.
 fn levels_empty(l: &[u8], width: usize) -> bool
     requires { ⌜ (width ≤ maxWidth) × (start3 + 3 + 4 * width ≤ length (now l)) ⌝ }
     ensures { λ r. ⌜ Tells r ((d : ℕ) → d < width → numberAt 4 (now (l .entry)) (start3 + 3 + 4 * d) ≡ 0) ⌝ }
@@ -522,11 +522,11 @@ pub fn ones_before(l: &[u8], t: &[u8], e: Encoding, o: EdgeOffset) -> usize
 }
 
 // Where level d ends.
-pub fn level_end(l: &[u8], e: Encoding, d: usize) -> usize
+pub fn level_end(l: &[u8], e: Encoding, d: usize) -> EdgeOffset
     requires { ⌜ Opens (now l) e × (d < e .width) ⌝ }
-    ensures { λ r. ⌜ r ≡ levelEnd (entryIn (now (l .entry))) d ⌝ }
+    ensures { λ r. ⌜ r .0 ≡ levelEnd (entryIn (now (l .entry))) d ⌝ }
 {
-    bits::number4(l, LEVELS + 4 * d)
+    EdgeOffset(bits::number4(l, LEVELS + 4 * d))
 }
 
 // Whether the edge at an offset is set.

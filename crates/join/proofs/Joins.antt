@@ -5,7 +5,8 @@ use mathlib.Core.Bool.{Bool, true, false, not, cond}
 use mathlib.Core.List.{List, [], _∷_}
 use native.Mathlib.Omega.{arith}
 use lib.ListN.{length, take, drop, take-append-drop, length-drop}
-use lib.Seq.{length-take-le, take-all}
+use lib.Seq.{length-take-le}
+use Rattle.loes.proofs.Lists.{rest-is}
 use lib.Dec.{eqb}
 use Rattle.loes.specs.Limits.{maxEdges}
 use Rattle.loes.specs.Bytes.{Bytes, started, packBits, bitsIn}
@@ -129,13 +130,10 @@ pub opens-short : (l : Bytes) (e : Encoding) → Opens l e → e .bits ≤ 8 * l
 unfolding started
 opens-short l e p = omega (arith, opens-room l e p .edges)
 
-tail-is : (l : Bytes) (n : ℕ) → take (length l - n) (drop n l) ≡ drop n l
-tail-is l n = take-all (length l - n) (drop n l) (omega (arith, length-drop n l))
-
 -- behind the edges stand two more fields, so a window may read on
 pub opens-over : (l : Bytes) (e : Encoding) → Opens l e → e .bits / 2 + overread ≤ 4 * length (take (length l - e .edges) (drop (e .edges) l))
 unfolding start5 start6 started
-opens-over l e p = rw (tail-is l (e .edges), length-drop (e .edges) l) (omega (arith, opens-room l e p .sub-blocks, p .edges, p .sub-blocks, p .bits))
+opens-over l e p = rw (rest-is l (e .edges), length-drop (e .edges) l) (omega (arith, opens-room l e p .sub-blocks, p .edges, p .sub-blocks, p .bits))
 
 module _ (kind : Join) (a b : Bytes) (e f : Encoding) (p : Opens a e) (q : Opens b f) (w : e .width ≡ f .width) where
   abbrev first : Bytes
@@ -145,16 +143,16 @@ module _ (kind : Join) (a b : Bytes) (e f : Encoding) (p : Opens a e) (q : Opens
   second = take (length b - f .edges) (drop (f .edges) b)
 
   pub first-holds : Holds (e .width) (e .bits) first
-  first-holds = rw (tail-is a (e .edges)) (opens-holds a e p)
+  first-holds = rw (rest-is a (e .edges)) (opens-holds a e p)
 
   pub second-holds : Holds (e .width) (f .bits) second
-  second-holds = rw (tail-is b (f .edges), w) (opens-holds b f q)
+  second-holds = rw (rest-is b (f .edges), w) (opens-holds b f q)
 
   first-held : held (e .width) (e .bits) first ≡ entryIn a
-  first-held = rw (tail-is a (e .edges)) (opens-held a e p)
+  first-held = rw (rest-is a (e .edges)) (opens-held a e p)
 
   second-held : held (e .width) (f .bits) second ≡ entryIn b
-  second-held = rw (tail-is b (f .edges), w) (opens-held b f q)
+  second-held = rw (rest-is b (f .edges), w) (opens-held b f q)
 
   same-width : entryIn a .width ≡ entryIn b .width
   same-width = sym (p .width) ∙ w ∙ q .width

@@ -1,10 +1,11 @@
--- filter, any, map and ones over ++ and over one another.
+-- filter, any, map and ones over ++ and over one another; a part that goes to the end.
 use mathlib.Core.Path.{_≡_, refl, sym}
-use Prim.Native.Nat.{ℕ, zero, suc, _+_, _*_, _≤_, _<_}
+use Prim.Native.Nat.{ℕ, zero, suc, _+_, _-_, _*_, _≤_, _<_}
 use mathlib.Core.Bool.{Bool, true, false, _||_, cond, or-assoc}
 use mathlib.Core.List.{List, [], _∷_, _++_, map}
 use native.Mathlib.Omega.{arith}
-use lib.ListN.{length, getD}
+use lib.ListN.{length, take, drop, getD, length-drop}
+use lib.Seq.{take-all}
 use Rattle.loes.specs.Keys.{filter, any}
 use Rattle.loes.specs.Edges.{Record, recordBits, ones}
 
@@ -74,3 +75,7 @@ pub getD-map-in : {A B : Type 0} (f : A → B) (l : List A) (i : ℕ) (d : A) (e
 getD-map-in f [] i d e h = absurd (omega arith)
 getD-map-in f (x ∷ l) zero d e h = refl
 getD-map-in f (x ∷ l) (suc i) d e h = getD-map-in f l i d e (omega arith)
+
+-- a part that goes to the end
+pub rest-is : {A : Type 0} (l : List A) (n : ℕ) → take (length l - n) (drop n l) ≡ drop n l
+rest-is l n = take-all (length l - n) (drop n l) (omega (arith, length-drop n l))

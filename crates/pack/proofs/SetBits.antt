@@ -16,7 +16,7 @@ use borrow.Author.Tests.{lt-leb}
 use Rattle.loes.specs.Bytes.{Bytes, bit, odd, bitAt, tabulate, bitsValue, byteOf, packBits, started}
 use Rattle.loes.proofs.Bytes.{getD-tabulate, length-packed}
 use Rattle.loes.proofs.Bits.{tabulate-ext, at-packed, bit-odd, bitsValue-snoc}
-use Rattle.pack.specs.Marking.{setBit, setBits, lastEdges, offsetOf}
+use Rattle.pack.specs.Marking.{setBit, setBits, secondEdges, offsetOf}
 
 -- one bit more
 value-set : (f g : ℕ → Bool) (n j : ℕ) → j < n → f j ≡ false → g j ≡ true → ((x : ℕ) → x < n → (x ≡ j → ⊥) → g x ≡ f x)
@@ -122,10 +122,6 @@ bits-more o from e l cur new h c n =
     let w : from + (e - from) ≡ e = omega arith in
     rw (z, w, ← c) n
 
-pub bits-none : (o : ℕ → ℕ) (from : ℕ) (l : List ℕ) → l ≡ setBits o from (from - from) l
-unfolding setBits
-bits-none o from l = let z : from - from ≡ 0 = omega arith in rw z
-
 pub bits-past : (o : ℕ → ℕ) (from n : ℕ) (l : List ℕ) → n ≤ from → l ≡ setBits o from (n - from) l
 unfolding setBits
 bits-past o from n l h = let z : n - from ≡ 0 = omega arith in rw z
@@ -145,11 +141,6 @@ bits-all o new m l cur h e =
     let w : new - (new - 1) + (m - new) ≡ m - (new - 1) = omega arith in
     ap (setBits o new (m - new)) e ∙ rw (z, w) at (bits-join o (new - 1) (new - (new - 1)) (m - new) l)
 
--- ---- a truth value as a number
-pub byte-bit : (b : Bool) → boolByte b ≡ bit b
-byte-bit true = refl
-byte-bit false = refl
-
 -- the same bits
 pub bits-ext : (o p : ℕ → ℕ) (from n : ℕ) (l : List ℕ) → ((j : ℕ) → j < n → o (from + j) ≡ p (from + j)) → setBits o from n l ≡ setBits p from n l
 unfolding setBits
@@ -158,11 +149,16 @@ bits-ext o p from (suc n) l h = rw (bits-ext o p from n l (λ j x. h j (omega ar
 
 -- the bit above the first new level
 pub above-is : (cursors : List ℕ) (new : ℕ) (key edges : Bytes) → (0 < new → (0 < getD cursors (new - 1) 0) × (bitAt key (new - 1) ≡ true))
-    → setBits (lastEdges cursors) (new - 1) (new - (new - 1)) edges ≡ setBits (offsetOf cursors new key) (new - 1) (new - (new - 1)) edges
-unfolding lastEdges offsetOf
+    → setBits (secondEdges cursors) (new - 1) (new - (new - 1)) edges ≡ setBits (offsetOf cursors new key) (new - 1) (new - (new - 1)) edges
+unfolding secondEdges offsetOf
 above-is cursors new key edges h =
-    bits-ext (lastEdges cursors) (offsetOf cursors new key) (new - 1) (new - (new - 1)) edges (λ j x.
+    bits-ext (secondEdges cursors) (offsetOf cursors new key) (new - 1) (new - (new - 1)) edges (λ j x.
     let z : new - 1 + j ≡ new - 1 = omega arith in
     let p = h (omega arith) in
     let q : leb new (new - 1) ≡ false = lt-leb new (new - 1) (omega arith) in
     rw (z, p .1, q) (omega (arith, p .0)))
+
+-- ---- a truth value as a number
+pub byte-bit : (b : Bool) → boolByte b ≡ bit b
+byte-bit true = refl
+byte-bit false = refl

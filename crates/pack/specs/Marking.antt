@@ -47,8 +47,8 @@ unfoldable pub offsetOf : List ℕ → ℕ → Bytes → ℕ → ℕ
 offsetOf cursors new key e = 2 * (getD cursors e 0 + bit (leb new e) - 1) + bit (bitAt key e)
 
 -- the second edge of each level's last record, from cursors behind it
-unfoldable pub lastEdges : List ℕ → ℕ → ℕ
-lastEdges cursors e = 2 * getD cursors e 0 - 1
+unfoldable pub secondEdges : List ℕ → ℕ → ℕ
+secondEdges cursors e = 2 * getD cursors e 0 - 1
 
 -- there is that record, and it lies in the edge bytes
 pub record Room (m new : ℕ) (key : Bytes) (cursors : List ℕ) (edges : Bytes) : Type 0 where

@@ -13,7 +13,7 @@ ghost use Rattle.bits.specs.Tables.{Tallies};
 ghost use Rattle.build.specs.Writing.{writtenOutcome};
 ghost use Rattle.pack.specs.Packing.{edgeRoom, smallBatch, Blank, Planned, Unfilled, BatchEdges};
 ghost use Rattle.pack.specs.Rising.{commonPrefix, firstNew, setBelow};
-ghost use Rattle.pack.specs.Marking.{Bumped, running, Starts, setBit, setBits, lastEdges, offsetOf, Room};
+ghost use Rattle.pack.specs.Marking.{Bumped, running, Starts, setBit, setBits, secondEdges, offsetOf, Room};
 ghost use Rattle.pack.specs.Batch.{SameBytes, FirstDifference, key, previous, KeyThere, KeyChecked, Uncounted, RecordsCounted, Unmarked};
 use bits::EdgeOffset;
 use build::Written;
@@ -73,7 +73,7 @@ fn same_words(x: &[u8], y: &[u8], t: usize) -> usize
     same_from(x, y, j, t)
 }
 
-// How many bytes agree, from the first on, of t at most.
+// How many bytes agree, from the first on, of t at most. Short keys have a function with no words in it, which is quicker for them.
 fn same_bytes(x: &[u8], y: &[u8], t: usize) -> usize
     requires { ⌜ (t ≤ length (now x)) × (t ≤ length (now y)) ⌝ }
     ensures { λ r. ⌜ SameBytes (now (x .entry)) (now (y .entry)) t r ⌝ }
@@ -219,7 +219,7 @@ fn set_bit(b: &mut [u8], o: EdgeOffset)
 // The last record of the level above the first new one gets its second edge; there is no such level for the first key.
 fn mark_above(new: usize, cursors: &[usize], edges: &mut [u8])
     requires { ⌜ (0 < new → (new ≤ length (now cursors)) × (0 < getD (now cursors) (new - 1) 0) × (2 * getD (now cursors) (new - 1) 0 ≤ 8 * length (now edges))) × (length (now edges) ≤ maxEdges / 8) ⌝ }
-    ensures { λ _. ⌜ now (edges .exit) ≡ setBits (lastEdges (now (cursors .entry))) (new - 1) (new - (new - 1)) (now (edges .entry)) ⌝ }
+    ensures { λ _. ⌜ now (edges .exit) ≡ setBits (secondEdges (now (cursors .entry))) (new - 1) (new - (new - 1)) (now (edges .entry)) ⌝ }
 {
     if new == 0 {
         return;
@@ -334,7 +334,7 @@ fn batch_edges(m: usize, batch: &[u8], edges: &mut [u8]) -> Checked
 
 // ---- The call
 // Room for the edges of any batch.
-fn edge_room() -> [u8; MAX_EDGE_BYTES]
+fn large_room() -> [u8; MAX_EDGE_BYTES]
     ensures { λ r. ⌜ length r ≡ maxEdges / 8 ⌝ }
 {
     [0; MAX_EDGE_BYTES]
@@ -382,7 +382,7 @@ fn pack_large(m: usize, batch: &[u8], out: &mut [u8]) -> Written
     ensures { λ r. ⌜ writtenOutcome r (now (out .exit)) ≡ packCall m (now (batch .entry)) (now (out .entry)) ⌝ }
 {
     let t = bits::tallies();
-    let mut edges = edge_room();
+    let mut edges = large_room();
     pack_with(m, batch, &t, &mut edges, out)
 }
 

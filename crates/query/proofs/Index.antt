@@ -9,7 +9,7 @@ use lib.Seq.{take-all, getD-drop}
 use lib.Dec.{leb, ltb}
 use borrow.Author.Tests.{leb-false}
 use Rattle.loes.proofs.Tests.{lt-yes}
-use lib.ListN.{length, take, drop, getD, length-drop}
+use lib.ListN.{length, drop, getD, length-drop}
 use Rattle.loes.specs.Limits.{blockBits, subBlockBits}
 use Rattle.loes.specs.Bytes.{Bytes, started, numberAt, bitsIn}
 use Rattle.loes.specs.Edges.{ones, onesBefore}
@@ -29,10 +29,6 @@ use Rattle.query.proofs.Select.{ones-mono, select-more}
 -- not by k, though there: more
 pub more-by : (a b n k : ℕ) → (ltb a b && leb n k) ≡ false → a < b → k < n
 more-by a b n k h g = leb-false n k (rw (lt-yes a b g) at h)
-
--- a part that goes to the end
-pub part-is : (l : Bytes) (n : ℕ) → take (length l - n) (drop n l) ≡ drop n l
-part-is l n = take-all (length l - n) (drop n l) (omega (arith, length-drop n l))
 
 -- the set bits of a byte before an offset, by the table
 pub before-is : (l d t : Bytes) (at from : ℕ) → d ≡ drop at l → Tallies t → getD l (at + from / 8) 0 < 256

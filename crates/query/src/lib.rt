@@ -248,7 +248,7 @@ fn sub_block_of(l: &[u8], e: Encoding, block: usize, k: usize) -> usize
     low
 }
 
-// The same, by a sub-block that may be it or the one behind it, if the entries say so.
+// The same, by a sub-block of the block that may be it or the one behind it, if the entries say so.
 fn sub_block_near(l: &[u8], e: Encoding, block: usize, k: usize, hint: usize) -> usize
     requires { ⌜ Opens (now l) e × (blockBits * block < e .bits) ⌝ }
     ensures { λ r. ⌜ LastBy (edgesOf (entryIn (now (l .entry)))) (e .bits) block k r ⌝ }
@@ -271,7 +271,7 @@ fn sub_block_near(l: &[u8], e: Encoding, block: usize, k: usize, hint: usize) ->
     sub_block_of(l, e, block, k)
 }
 
-// The edge that leads to a record: the set bit of the record's number less 1, by block, sub-block, byte and table. Where the hint is its sub-block, or the one behind that, the search is saved.
+// The edge that leads to a record: the set bit of the record's number less 1, by block, sub-block, words, bytes and table. A hint that is its sub-block, or the one behind that, saves a search.
 fn edge_to(
     l: &[u8],
     t: &[u8],
@@ -335,24 +335,24 @@ fn edge_up(
 }
 
 // Where level d begins.
-fn level_start(l: &[u8], e: Encoding, d: usize) -> usize
+fn level_start(l: &[u8], e: Encoding, d: usize) -> EdgeOffset
     requires { ⌜ Opens (now l) e × (d ≤ e .width) ⌝ }
-    ensures { λ r. ⌜ r ≡ levelStart (entryIn (now (l .entry))) d ⌝ }
+    ensures { λ r. ⌜ r .0 ≡ levelStart (entryIn (now (l .entry))) d ⌝ }
 {
     if d == 0 {
-        return 0;
+        return EdgeOffset(0);
     }
     encoding::level_end(l, e, d - 1)
 }
 
 // Where the next offset might be, as far above as this one is above the last.
-fn guess_from(last: usize, o: usize) -> usize
-    requires { ⌜ o ≤ maxEdges ⌝ }
+fn guess_from(last: EdgeOffset, o: EdgeOffset) -> EdgeOffset
+    requires { ⌜ o .0 ≤ maxEdges ⌝ }
 {
-    if 2 * o < last {
-        return 0;
+    if 2 * o.0 < last.0 {
+        return EdgeOffset(0);
     }
-    2 * o - last
+    EdgeOffset(2 * o.0 - last.0)
 }
 
 // ---- Paths and their keys
@@ -377,15 +377,16 @@ fn path_at(l: &[u8], t: &[u8], places: &[u8], e: Encoding, i: MemberIndex, offse
             places,
             e,
             RecordIndex(r),
-            EdgeOffset(start),
+            start,
             k,
             guess / Encoding::SUB_BLOCK_BITS,
         );
         let q = o.0;
         offsets[d] = q;
-        guess = guess_from(last, q);
+        let next = guess_from(EdgeOffset(last), o);
+        guess = next.0;
         last = q;
-        end = start;
+        end = start.0;
         r = q / 2;
     }
 }

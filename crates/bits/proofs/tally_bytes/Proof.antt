@@ -6,7 +6,7 @@ use lib.ListN.{drop, getD}
 use Rattle.loes.specs.Bytes.{tabulate, bitsIn}
 use Rattle.loes.specs.Edges.{ones}
 use Rattle.bits.specs.Tables.{bits8}
-use Rattle.bits.proofs.Counts.{ones-bits-le, byte-next}
+use Rattle.bits.proofs.Counts.{ones-bits-le, byte-behind}
 use Rattle.bits.proofs.tally_bytes.Statement.{statement}
 use Rattle.bits.proofs.tally_bytes.Tie as tie
 
@@ -63,7 +63,7 @@ loop-again : tie.Need-loop-again Inv-loop μ-loop
 loop-again c =
     let h = c .before .before .before .loop in
     let a = c .before .before .before .before .args in
-    (omega arith, omega arith, omega (arith, entry c, h .inv .2, byte-next (now (a .l)) (a .from) (h .i) (h .inv .0)))
+    (omega arith, omega arith, omega (arith, entry c, h .inv .2, byte-behind (now (a .l)) (a .from) (h .i) (h .inv .0)))
 
 returns : tie.Need-returns Inv-loop μ-loop
 returns c =

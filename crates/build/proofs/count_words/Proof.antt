@@ -53,7 +53,7 @@ loop-again : tie.Need-loop-again Inv-loop μ-loop
 loop-again c = (omega arith, omega (arith, more c, loop c .loop .inv .1))
 
 returns : tie.Need-returns Inv-loop μ-loop
-returns c = (c .before .loop .inv .1, c .before .loop .inv .0)
+returns c = (c .before .loop .inv .1, c .before .loop .inv .0, omega arith)
 
 pub count-words-spec : {M : Type 1} → statement M
 count-words-spec =

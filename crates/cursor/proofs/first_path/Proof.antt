@@ -44,13 +44,13 @@ level-end-requires : tie.Need-level-end-requires Inv-loop μ-loop
 level-end-requires c κs = let l = c .before .before in (start l .pre .0, c .before .loop-test .taken)
 
 add-d : tie.Need-add-d Inv-loop μ-loop
-add-d c = let l = c .before .before .before in omega (arith, c .before .before .loop-test .taken, opens-room _ _ (start l .pre .0) .narrow)
+add-d c = let l = c .before .before .before .before in omega (arith, c .before .before .before .loop-test .taken, opens-room _ _ (start l .pre .0) .narrow)
 
 loop-less : tie.Need-loop-less Inv-loop μ-loop
-loop-less c = omega (arith, c .before .before .loop-test .taken)
+loop-less c = omega (arith, c .before .before .before .loop-test .taken)
 
 loop-again : tie.Need-loop-again Inv-loop μ-loop
-loop-again c = let l = c .before .before .before in let s = start l in first-next _ (opens-valid _ _ (s .pre .0)) (some s) _ (long s) _ _ _ (l .loop .inv) (inside l (c .before .before .loop-test .taken)) _ _ (c .before .first-edge .ensures) (ap (λ x. x / 2) (c .level-end .ensures))
+loop-again c = let l = c .before .before .before .before in let s = start l in first-next _ (opens-valid _ _ (s .pre .0)) (some s) _ (long s) _ _ _ (l .loop .inv) (inside l (c .before .before .before .loop-test .taken)) _ _ (c .before .before .first-edge .ensures) (ap (λ x. x / 2) (c .before .level-end .ensures))
 
 same-length : tie.Need-same-length Inv-loop μ-loop
 same-length c = c .before .loop .inv .size

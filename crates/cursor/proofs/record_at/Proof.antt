@@ -1,8 +1,10 @@
+use mathlib.Core.Path.{_∙_}
 use Prim.Native.Nat.{_+_, _/_, _<_, _≤_}
 use native.Mathlib.Omega.{arith}
 use denote.Ref.{now}
 use lib.ListN.{length}
 use Rattle.loes.specs.Bytes.{started}
+use Rattle.records.specs.Records.{codeIn}
 use Rattle.encoding.proofs.Opened.{opens-room}
 use Rattle.cursor.proofs.Checks.{code-at}
 use borrow.Author.Needs.{needs}
@@ -14,38 +16,23 @@ unfolding started
 inside s = let r = opens-room (now (s .args .l)) (s .args .e) (s .pre .0) in (omega (arith, r .edges, s .pre .1), r .bytes)
 
 add-at : tie.Need-add-at
-add-at c = omega (arith, inside (c .before .before))
+add-at c = omega (arith, inside (c .before .before .before))
 
-shared-slice-read-x : tie.Need-shared-slice-read-x
-shared-slice-read-x c = inside (c .before .before .before) .0
+shared-slice-read-record-in : tie.Need-shared-slice-read-record-in
+shared-slice-read-record-in c = inside (c .before .before .before .before) .0
 
-mul-result : tie.Need-mul-result
-mul-result c = search needs
-
-sub-result : tie.Need-sub-result
-sub-result c = search needs
+record-in-requires : tie.Need-record-in-requires
+record-in-requires c κs = search needs
 
 cast-result : tie.Need-cast-result
 cast-result c = search needs
 
-shr-result : tie.Need-shr-result
-shr-result c = search needs
-
-cast-result-2 : tie.Need-cast-result-2
-cast-result-2 c = search needs
-
 returns : tie.Need-returns
-returns c = let s = c .before .before .before .before in code-at (now (s .args .l)) (s .args .e) (s .args .r .0) (s .pre .0) (s .pre .1)
+unfolding codeIn
+returns c =
+    let s = c .before .before .before .before .before .before in
+    c .record-in .ensures .0 ∙ code-at (now (s .args .l)) (s .args .e) (s .args .r .0) (s .pre .0) (s .pre .1)
 
 pub record-at-spec : {M : Type 1} → statement M
 record-at-spec =
-    tie.close
-    (tie.spec
-    add-at
-    shared-slice-read-x
-    mul-result
-    sub-result
-    cast-result
-    shr-result
-    cast-result-2
-    returns)
+    tie.close (tie.spec add-at shared-slice-read-record-in record-in-requires cast-result returns)

@@ -3,8 +3,8 @@ use Prim.Native.Nat.{_+_, _-_, _*_, _<_, _≤_}
 use native.Mathlib.Omega.{arith}
 use denote.Ref.{now}
 use lib.ListN.{length, getD}
-use Rattle.pack.specs.Marking.{lastEdges}
-use Rattle.pack.proofs.SetBits.{bits-none, bits-more}
+use Rattle.pack.specs.Marking.{secondEdges}
+use Rattle.pack.proofs.SetBits.{bits-past, bits-more}
 use borrow.Author.Needs.{needs}
 use Rattle.pack.proofs.mark_above.Statement.{statement}
 use Rattle.pack.proofs.mark_above.Tie as tie
@@ -17,7 +17,7 @@ returns : tie.Need-returns
 returns c =
     let a = c .before .before .before .args in
     let z : a .new - (a .new - 1) ≡ a .new - 1 - (a .new - 1) = omega (arith, c .if1 .taken) in
-    rw z (bits-none (lastEdges (now (a .cursors))) (a .new - 1) (now (a .edges)))
+    rw z (bits-past (secondEdges (now (a .cursors))) (a .new - 1) (a .new - 1) (now (a .edges)) (omega arith))
 
 sub-record : tie.Need-sub-record
 sub-record c = search needs
@@ -41,13 +41,13 @@ same-length : tie.Need-same-length
 same-length c = search needs
 
 returns-2 : tie.Need-returns-2
-unfolding lastEdges
+unfolding secondEdges
 returns-2 c =
     let e = c .before .before .before .before .before in
     let a = e .before .before .before .args in
-    let o = lastEdges (now (a .cursors)) in
+    let o = secondEdges (now (a .cursors)) in
     let z : a .new - 1 + 1 ≡ a .new = omega (arith, e .if1 .left) in
-    rw z at (bits-more o (a .new - 1) (a .new - 1) (now (a .edges)) (now (a .edges)) (c .before .before .set-bit .last .0) (omega arith) (bits-none o (a .new - 1) (now (a .edges))) (c .before .before .set-bit .ensures))
+    rw z at (bits-more o (a .new - 1) (a .new - 1) (now (a .edges)) (now (a .edges)) (c .before .before .set-bit .last .0) (omega arith) (bits-past o (a .new - 1) (a .new - 1) (now (a .edges)) (omega arith)) (c .before .before .set-bit .ensures))
 
 pub mark-above-spec : {M : Type 1} → statement M
 mark-above-spec =

@@ -13,7 +13,7 @@ use Rattle.loes.specs.Bytes.{bit, started}
 use Rattle.loes.specs.Entry.{keyBytes}
 use Rattle.loes.proofs.Tree.{bit-le}
 use Rattle.pack.specs.Marking.{setBit, setBits, offsetOf}
-use Rattle.pack.proofs.SetBits.{bits-none, bits-more, bits-past, bits-all, above-is, byte-bit}
+use Rattle.pack.proofs.SetBits.{bits-more, bits-past, bits-all, above-is, byte-bit}
 use Rattle.pack.proofs.mark_key.Statement.{statement}
 use Rattle.pack.proofs.mark_key.Tie as tie
 
@@ -77,7 +77,7 @@ loop-holds : tie.Need-loop-holds Inv-loop μ-loop
 loop-holds c =
     let e = c .before .before .before .before .before in
     let a = e .before .before .before .before .args in
-    (omega arith, e .if1 .left, refl, refl, λ x l. rw (lt-leb (a .new) x l) (omega arith), λ x l. refl, bits-none (offsetOf (now (a .cursors)) (a .new) (now (a .key))) (a .new) _)
+    (omega arith, e .if1 .left, refl, refl, λ x l. rw (lt-leb (a .new) x l) (omega arith), λ x l. refl, bits-past (offsetOf (now (a .cursors)) (a .new) (now (a .key))) (a .new) (a .new) _ (omega arith))
 
 mul-record : tie.Need-mul-record Inv-loop μ-loop
 mul-record c = omega (arith, start c .good, start c .pre .long, c .loop-test .taken)

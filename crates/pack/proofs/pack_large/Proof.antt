@@ -6,8 +6,8 @@ use Rattle.pack.proofs.pack_large.Tie as tie
 tallies-requires : tie.Need-tallies-requires
 tallies-requires c κs = search needs
 
-edge-room-requires : tie.Need-edge-room-requires
-edge-room-requires c κs = search needs
+large-room-requires : tie.Need-large-room-requires
+large-room-requires c κs = search needs
 
 slice-aggregate-pack-with : tie.Need-slice-aggregate-pack-with
 slice-aggregate-pack-with c = search needs
@@ -30,7 +30,7 @@ pack-large-spec =
     tie.close
     (tie.spec
     tallies-requires
-    edge-room-requires
+    large-room-requires
     slice-aggregate-pack-with
     slice-aggregate-pack-with-2
     pack-with-requires

@@ -10,7 +10,8 @@ use Rattle.loes.proofs.Seven.{ones-le}
 use Rattle.bits.proofs.Counts.{shift-small}
 use Rattle.encoding.proofs.Opened.{opens-room, room-at}
 use Rattle.query.specs.Select.{numbered}
-use Rattle.query.proofs.Index.{part-is, before-is, behind-is, select-is}
+use Rattle.loes.proofs.Lists.{rest-is}
+use Rattle.query.proofs.Index.{before-is, behind-is, select-is}
 use borrow.Author.Needs.{needs}
 use Rattle.query.proofs.edge_behind.Statement.{statement}
 use Rattle.query.proofs.edge_behind.Tie as tie
@@ -40,7 +41,7 @@ begins : (c : tie.After-shared-slice-known5) → let a = start c .args in
 begins c =
     let s = start c in
     let a = s .args in
-    let p = part-is (now (a .l)) (a .e .edges) in
+    let p = rest-is (now (a .l)) (a .e .edges) in
     behind-is (now (a .l)) (a .e) (s .pre .0) _ p (a .from .0) (a .k) _ (s .pre .3) (before-is (now (a .l)) _ (now (a .t)) (a .e .edges) (a .from .0) p (s .pre .1) (byte (c .before .before))) .1
 
 add-x : tie.Need-add-x
@@ -84,7 +85,7 @@ select-from-requires : tie.Need-select-from-requires
 select-from-requires c κs =
     let s = start (c .before) in
     let a = s .args in
-    let p = part-is (now (a .l)) (a .e .edges) in (
+    let p = rest-is (now (a .l)) (a .e .edges) in (
       s .pre .1,
       s .pre .2,
       rw p (omega (arith, room s, length-drop (a .e .edges) (now (a .l)))),
@@ -94,7 +95,7 @@ select-from-requires c κs =
 returns : tie.Need-returns
 returns c =
     let s = start (c .before .before) in
-    rw (begins (c .before .before)) at (c .select-from .ensures) ∙ select-is _ _ (s .pre .0) _ (part-is (now (s .args .l)) (s .args .e .edges)) _ (s .pre .3) .1
+    rw (begins (c .before .before)) at (c .select-from .ensures) ∙ select-is _ _ (s .pre .0) _ (rest-is (now (s .args .l)) (s .args .e .edges)) _ (s .pre .3) .1
 
 pub edge-behind-spec : {M : Type 1} → statement M
 edge-behind-spec =

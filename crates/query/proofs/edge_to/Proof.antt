@@ -11,13 +11,14 @@ use Prim.Native.Nat.{_<_}
 use Rattle.loes.specs.Entry.{edgesOf, edgeCount}
 use Rattle.loes.specs.Read.{entryIn}
 use Rattle.encoding.proofs.Opened.{opens-room}
-use Rattle.query.proofs.Index.{part-is, block-at, sub-block-at, start-is, select-is}
+use Rattle.loes.proofs.Lists.{rest-is}
+use Rattle.query.proofs.Index.{block-at, sub-block-at, start-is, select-is}
 use borrow.Author.Needs.{needs}
 use Rattle.query.proofs.edge_to.Statement.{statement}
 use Rattle.query.proofs.edge_to.Tie as tie
 
 part : (s : tie.Start) → take (length (now (s .args .l)) - s .args .e .edges) (drop (s .args .e .edges) (now (s .args .l))) ≡ drop (s .args .e .edges) (now (s .args .l))
-part s = part-is (now (s .args .l)) (s .args .e .edges)
+part s = rest-is (now (s .args .l)) (s .args .e .edges)
 
 abbrev start : tie.After-number2 → tie.Start
 start c = c .before .before .before .before .before .before .before .before .before .before
