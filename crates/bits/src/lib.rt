@@ -7,7 +7,7 @@ ghost use Rattle.loes.specs.Bytes.{bitAt, bitsIn, numberAt};
 ghost use Rattle.loes.specs.Edges.{ones};
 ghost use Rattle.loes.specs.Entry.{keyBytes};
 ghost use Rattle.loes.specs.Model.{unusedSet};
-ghost use Rattle.bits.specs.Tables.{Places, Tallies};
+ghost use Rattle.bits.specs.Tables.{placeOf, Places, Tallies};
 ghost use Rattle.bits.specs.Words.{wordIn};
 
 pub mod tables;
@@ -130,8 +130,17 @@ pub fn tallies() -> [u8; 256]
 }
 
 // The table of places, to be bound once and lent.
-pub fn places() -> [u8; 2048]
+pub fn places() -> [u32; 256]
     ensures { λ r. ⌜ Places r ⌝ }
 {
     tables::PLACES
+}
+
+// The place of set bit number k of a byte, or 8 if it has none, by the table.
+pub fn place(places: &[u32], x: u8, k: usize) -> usize
+    requires { ⌜ Places (now places) × (k < 8) ⌝ }
+    ensures { λ r. ⌜ r ≡ placeOf x k ⌝ }
+{
+    let row = places[x as usize];
+    ((row >> (4 * (7 - k))) % 16) as usize
 }

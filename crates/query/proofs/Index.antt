@@ -16,15 +16,15 @@ use Rattle.loes.specs.Edges.{ones, onesBefore}
 use Rattle.loes.specs.Entry.{edgesOf, edgeCount}
 use Rattle.loes.specs.Encode.{blockOnes, subBlockOnes}
 use Rattle.loes.specs.Read.{start5, entryIn}
-use Rattle.bits.specs.Tables.{select, bits8, Tallies}
+use Rattle.bits.specs.Tables.{select, bits8, placeOf, Tallies}
 use Rattle.bits.proofs.Counts.{before-bits, ones-more, shift-small, part-ones}
 use Rattle.loes.proofs.Seven.{ones-le}
 use Rattle.encoding.specs.declared.Encoding.{Encoding}
 use Rattle.encoding.specs.Opened.{Opens, edgesAt}
 use Rattle.encoding.proofs.Opened.{opens-room, opens-edges, opens-counted}
 use Rattle.encoding.proofs.Index.{sub-block-start}
-use Rattle.query.specs.Select.{numbered}
-use Rattle.query.proofs.Select.{ones-mono, select-more}
+use Rattle.query.specs.Select.{numbered, InByte}
+use Rattle.query.proofs.Select.{byte-few, found-byte, ones-mono, select-more}
 
 -- not by k, though there: more
 pub more-by : (a b n k : ℕ) → (ltb a b && leb n k) ≡ false → a < b → k < n
@@ -96,3 +96,14 @@ module _ (l : Bytes) (e : Encoding) (o : Opens l e) where
         let y : onesBefore x from ≡ ones (bitsIn d from) =
         ap (λ v. onesBefore v from) (sym (opens-edges l e o)) ∙ before-bits (drop (e .edges) l) (e .bits) from (omega arith) ∙ ap (λ v. ones (bitsIn v from)) (sym part) in
         (lt, omega (arith, y, ec, ap (λ v. ones (bitsIn d v)) z, ones-more d (from / 8) (from % 8)))
+
+  -- an edge that is set bit number k of byte i of the edges
+  pub edge-in-byte : (n i k : ℕ) → n < ones (edgesOf (entryIn l)) → InByte (drop (e .edges) l) n i k
+      → (e .edges + i < length l) × (k < 8) × (8 * i + placeOf (getD l (e .edges + i) 0) k ≡ select (edgesOf (entryIn l)) n)
+  edge-in-byte n i k h b =
+      let d : Bytes = drop (e .edges) l in
+      let f = found-byte d i k n b ∙ select-is d refl n h .1 in (
+        omega (arith, b .0, length-drop (e .edges) l),
+        omega (arith, b .1, byte-few (getD d i 0)),
+        rw (getD-drop (e .edges) l i 0) at f,
+      )

@@ -1,6 +1,6 @@
 -- Set bits by their number: in a list, and in bytes from a start on.
 use mathlib.Core.Path.{_≡_, refl, sym, ap, _∙_}
-use Prim.Native.Nat.{ℕ, zero, suc, _+_, _-_, _*_, _/_, _%_, _^_, _≤_, _<_}
+use Prim.Native.Nat.{ℕ, zero, suc, _+_, _-_, _*_, _/_, _^_, _≤_, _<_}
 use mathlib.Core.Bool.{Bool, true, false, false≢true}
 use mathlib.Core.List.{List, [], _∷_, _++_}
 use native.Mathlib.Omega.{arith}
@@ -11,11 +11,11 @@ use Rattle.loes.specs.Bytes.{Bytes, odd, bitsIn}
 use Rattle.loes.specs.Edges.{ones, onesBefore}
 use Rattle.loes.proofs.Lists.{ones-append}
 use Rattle.loes.proofs.Bytes.{length-tabulate}
-use Rattle.bits.specs.Tables.{select, bits8, placeOf, Places}
+use Rattle.bits.specs.Tables.{select, bits8, placeOf}
 use Rattle.bits.proofs.Counts.{byte-more, ones-more}
 use Rattle.loes.proofs.Seven.{ones-le}
 use Rattle.loes.proofs.Bits.{length-bitsIn}
-use Rattle.query.specs.Select.{numbered}
+use Rattle.query.specs.Select.{numbered, InByte}
 use Rattle.query.proofs.BitLists.{take-bits}
 
 -- ---- In a list
@@ -83,15 +83,11 @@ module _ (l : Bytes) (i k : ℕ) where
   next-byte c e h = omega (arith, ones-byte l i, e)
 
   -- or ends in this one
-  pub found-byte : (t : List ℕ) (c n : ℕ) → Places t → i < length l → getD l i 0 < 256 → c ≡ ones (bits8 (getD l i 0)) → k < c → numbered l i k ≡ n
-      → 8 * i + getD t (8 * getD l i 0 + k) 0 ≡ select (bitsIn l (8 * length l)) n
-  unfolding numbered placeOf
-  found-byte t c n p h x e q z =
-      let few = byte-few (getD l i 0) in
-      let v : (8 * getD l i 0 + k) / 8 ≡ getD l i 0 = omega (arith, few) in
-      let r : (8 * getD l i 0 + k) % 8 ≡ k = omega (arith, few) in
-      let b : numbered l i k < ones (bitsIn l (8 * (i + 1))) = omega (arith, ones-byte l i) in
-      rw (p .rule (8 * getD l i 0 + k) (omega (arith, few)), v, r, ← z)
+  pub found-byte : (n : ℕ) → InByte l n i k → 8 * i + placeOf (getD l i 0) k ≡ select (bitsIn l (8 * length l)) n
+  unfolding numbered
+  found-byte n (h, q, z) =
+      let b : numbered l i k < ones (bitsIn l (8 * (i + 1))) = omega (arith, ones-byte l i, q) in
+      rw (← z)
       (sym (select-more l (8 * (i + 1)) (8 * length l) (ones (bitsIn l (8 * i)) + k) (omega arith) b
       ∙ ap (λ y. select y (ones (bitsIn l (8 * i)) + k)) (bits-byte l i)
       ∙ select-back (bitsIn l (8 * i)) (bits8 (getD l i 0)) k ∙ ap (λ y. y + select (bits8 (getD l i 0)) k) (length-bitsIn l (8 * i))))

@@ -3,7 +3,7 @@ ghost use Prim.Native.Nat.{_+_, _-_, _*_, _/_, _<_, _≤_};
 ghost use mathlib.Core.Path.{_≡_};
 ghost use mathlib.Core.Bool.{true, false, _&&_, not, _||_};
 ghost use mathlib.Core.List.{[]};
-ghost use lib.ListN.{length, getD};
+ghost use lib.ListN.{length, getD, drop};
 ghost use lib.Dec.{eqb, leb, ltb};
 ghost use Rattle.loes.specs.Limits.{maxWidth, maxEdges, maxBytes, blockBits, subBlockBits};
 ghost use Rattle.loes.specs.Bytes.{bit, bitsIn, byteOf, packBits, front};
@@ -18,7 +18,7 @@ ghost use Rattle.bits.specs.Tables.{select, bits8, Tallies, Places};
 ghost use Rattle.encoding.specs.Opened.{Opens};
 ghost use Rattle.query.specs.Descent.{edgeFrom, Way, Located};
 ghost use Rattle.query.specs.Paths.{pathKey};
-ghost use Rattle.query.specs.Select.{numbered, LastBy, levelStart};
+ghost use Rattle.query.specs.Select.{numbered, InByte, LastBy, levelStart};
 ghost use Rattle.query.specs.Answers.{membershipOutcome, lookupOutcome, boundOutcome, writtenOutcome};
 use bits::EdgeOffset;
 use bits::MemberIndex;
@@ -168,10 +168,16 @@ fn ones_in(t: &[u8], x: u8) -> usize
     t[x as usize] as usize
 }
 
-// The offset of the set bit that has `left` set bits before it from byte `from` on, byte by byte.
-fn select_in_bytes(edges: &[u8], t: &[u8], places: &[u8], from: usize, left: usize) -> EdgeOffset
-    requires { ⌜ Tallies (now t) × Places (now places) × (length (now edges) ≤ maxBytes) × (numbered (now edges) from left < ones (bitsIn (now edges) (8 * length (now edges)))) ⌝ }
-    ensures { λ r. ⌜ r .0 ≡ select (bitsIn (now (edges .entry)) (8 * length (now (edges .entry)))) (numbered (now (edges .entry)) from left) ⌝ }
+// A set bit: the byte that it is in, and its number among that byte's.
+struct BitInByte {
+    byte: usize,
+    number: usize,
+}
+
+// The set bit that has `left` set bits before it from byte `from` on, byte by byte.
+fn find_in_bytes(edges: &[u8], t: &[u8], from: usize, left: usize) -> BitInByte
+    requires { ⌜ Tallies (now t) × (length (now edges) ≤ maxBytes) × (numbered (now edges) from left < ones (bitsIn (now edges) (8 * length (now edges)))) ⌝ }
+    ensures { λ r. ⌜ InByte (now (edges .entry)) (numbered (now (edges .entry)) from left) (r .byte) (r .number) ⌝ }
 {
     let mut i = from;
     let mut k = left;
@@ -181,14 +187,13 @@ fn select_in_bytes(edges: &[u8], t: &[u8], places: &[u8], from: usize, left: usi
         i += 1;
         c = ones_in(t, edges[i]);
     }
-    let x = edges[i] as usize;
-    EdgeOffset(8 * i + (places[8 * x + k] as usize))
+    BitInByte { byte: i, number: k }
 }
 
-// The same as select_in_bytes, eight bytes at a time first: the set bit has eight bytes behind its own.
-fn select_from(edges: &[u8], t: &[u8], places: &[u8], from: usize, left: usize) -> EdgeOffset
-    requires { ⌜ Tallies (now t) × Places (now places) × (length (now edges) ≤ maxBytes) × (numbered (now edges) from left < ones (bitsIn (now edges) (8 * (length (now edges) - 8)))) ⌝ }
-    ensures { λ r. ⌜ r .0 ≡ select (bitsIn (now (edges .entry)) (8 * length (now (edges .entry)))) (numbered (now (edges .entry)) from left) ⌝ }
+// The same, eight bytes at a time first: the set bit has eight bytes behind its own.
+fn find_from(edges: &[u8], t: &[u8], from: usize, left: usize) -> BitInByte
+    requires { ⌜ Tallies (now t) × (length (now edges) ≤ maxBytes) × (numbered (now edges) from left < ones (bitsIn (now edges) (8 * (length (now edges) - 8)))) ⌝ }
+    ensures { λ r. ⌜ InByte (now (edges .entry)) (numbered (now (edges .entry)) from left) (r .byte) (r .number) ⌝ }
 {
     let mut i = from;
     let mut k = left;
@@ -198,7 +203,7 @@ fn select_from(edges: &[u8], t: &[u8], places: &[u8], from: usize, left: usize) 
         i += 8;
         c = bits::word_ones(edges, i);
     }
-    select_in_bytes(edges, t, places, i, k)
+    find_in_bytes(edges, t, i, k)
 }
 
 // The last block with at most k set bits before it.
@@ -271,17 +276,10 @@ fn sub_block_near(l: &[u8], e: Encoding, block: usize, k: usize, hint: usize) ->
     sub_block_of(l, e, block, k)
 }
 
-// The edge that leads to a record: the set bit of the record's number less 1, by block, sub-block, words, bytes and table. A hint that is its sub-block, or the one behind that, saves a search.
-fn edge_to(
-    l: &[u8],
-    t: &[u8],
-    places: &[u8],
-    e: Encoding,
-    r: RecordIndex,
-    hint: usize,
-) -> EdgeOffset
-    requires { ⌜ Opens (now l) e × Tallies (now t) × Places (now places) × (0 < r .0) × (r .0 - 1 < ones (edgesOf (entryIn (now l)))) ⌝ }
-    ensures { λ x. ⌜ x .0 ≡ select (edgesOf (entryIn (now (l .entry)))) (r .0 - 1) ⌝ }
+// The edge that leads to a record: the set bit of the record's number less 1, by block, sub-block, words and bytes. A hint that is its sub-block, or the one behind that, saves a search.
+fn find_by_index(l: &[u8], t: &[u8], e: Encoding, r: RecordIndex, hint: usize) -> BitInByte
+    requires { ⌜ Opens (now l) e × Tallies (now t) × (0 < r .0) × (r .0 - 1 < ones (edgesOf (entryIn (now l)))) ⌝ }
+    ensures { λ x. ⌜ InByte (drop (e .edges) (now (l .entry))) (r .0 - 1) (x .byte) (x .number) ⌝ }
 {
     let k = r.0 - 1;
     let block = block_of(l, e, k);
@@ -289,36 +287,48 @@ fn edge_to(
     let sub = sub_block_near(l, e, block, in_block, hint);
     let left = in_block - bits::number2(l, e.sub_blocks + 2 * sub);
     let start = e.edges;
-    select_from(&l[start..], t, places, SUB_BLOCK_BYTES * sub, left)
+    find_from(&l[start..], t, SUB_BLOCK_BYTES * sub, left)
 }
 
 // The set bit that has k set bits before it from an offset on.
-fn edge_behind(
-    l: &[u8],
-    t: &[u8],
-    places: &[u8],
-    e: Encoding,
-    from: EdgeOffset,
-    k: usize,
-) -> EdgeOffset
-    requires { ⌜ Opens (now l) e × Tallies (now t) × Places (now places) × (onesBefore (edgesOf (entryIn (now l))) (from .0) + k < ones (edgesOf (entryIn (now l)))) ⌝ }
-    ensures { λ x. ⌜ x .0 ≡ select (edgesOf (entryIn (now (l .entry)))) (onesBefore (edgesOf (entryIn (now (l .entry)))) (from .0) + k) ⌝ }
+fn find_behind(l: &[u8], t: &[u8], e: Encoding, from: EdgeOffset, k: usize) -> BitInByte
+    requires { ⌜ Opens (now l) e × Tallies (now t) × (onesBefore (edgesOf (entryIn (now l))) (from .0) + k < ones (edgesOf (entryIn (now l)))) ⌝ }
+    ensures { λ x. ⌜ InByte (drop (e .edges) (now (l .entry))) (onesBefore (edgesOf (entryIn (now (l .entry)))) (from .0) + k) (x .byte) (x .number) ⌝ }
 {
     let start = e.edges;
     let at = from.0 / 8;
     let x = (l[start + at] as usize) >> (8 - from.0 % 8);
     let before = t[x] as usize;
-    select_from(&l[start..], t, places, at, before + k)
+    find_from(&l[start..], t, at, before + k)
 }
 
 // So few set bits are counted from the level's start.
 const FEW: usize = 128;
 
 // The edge that leads to a record, which is number k of its level; the edge's level begins at an offset.
+fn find_edge(
+    l: &[u8],
+    t: &[u8],
+    e: Encoding,
+    r: RecordIndex,
+    from: EdgeOffset,
+    k: usize,
+    hint: usize,
+) -> BitInByte
+    requires { ⌜ Opens (now l) e × Tallies (now t) × (0 < r .0) × (r .0 - 1 < ones (edgesOf (entryIn (now l)))) × (onesBefore (edgesOf (entryIn (now l))) (from .0) + k ≡ r .0 - 1) ⌝ }
+    ensures { λ x. ⌜ InByte (drop (e .edges) (now (l .entry))) (r .0 - 1) (x .byte) (x .number) ⌝ }
+{
+    if k < FEW {
+        return find_behind(l, t, e, from, k);
+    }
+    find_by_index(l, t, e, r, hint)
+}
+
+// The offset of that edge: its place in its byte is in the table.
 fn edge_up(
     l: &[u8],
     t: &[u8],
-    places: &[u8],
+    places: &[u32],
     e: Encoding,
     r: RecordIndex,
     from: EdgeOffset,
@@ -328,10 +338,12 @@ fn edge_up(
     requires { ⌜ Opens (now l) e × Tallies (now t) × Places (now places) × (0 < r .0) × (r .0 - 1 < ones (edgesOf (entryIn (now l)))) × (onesBefore (edgesOf (entryIn (now l))) (from .0) + k ≡ r .0 - 1) ⌝ }
     ensures { λ x. ⌜ x .0 ≡ select (edgesOf (entryIn (now (l .entry)))) (r .0 - 1) ⌝ }
 {
-    if k < FEW {
-        return edge_behind(l, t, places, e, from, k);
-    }
-    edge_to(l, t, places, e, r, hint)
+    let found = find_edge(l, t, e, r, from, k, hint);
+    let byte = found.byte;
+    let number = found.number;
+    let x = l[e.edges + byte];
+    let o = 8 * byte + bits::place(places, x, number);
+    EdgeOffset(o)
 }
 
 // Where level d begins.
@@ -357,7 +369,7 @@ fn guess_from(last: EdgeOffset, o: EdgeOffset) -> EdgeOffset
 
 // ---- Paths and their keys
 // The offsets of member i's edges, from the last level up.
-fn path_at(l: &[u8], t: &[u8], places: &[u8], e: Encoding, i: MemberIndex, offsets: &mut [usize])
+fn path_at(l: &[u8], t: &[u8], places: &[u32], e: Encoding, i: MemberIndex, offsets: &mut [usize])
     requires { ⌜ Opens (now l) e × Tallies (now t) × Places (now places) × (i .0 < e .count) × (e .width ≤ length (now offsets)) ⌝ }
     ensures { λ _. ⌜ now (offsets .exit) ≡ front (pathOf (entryIn (now (l .entry))) (getD (keysOf (entryIn (now (l .entry)))) (i .0) [])) (now (offsets .entry)) ⌝ }
 {
@@ -518,7 +530,7 @@ pub fn lower_bound_in(l: &[u8], t: &[u8], e: Encoding, key: &[u8]) -> Bound
 pub fn key_at_in(
     l: &[u8],
     t: &[u8],
-    places: &[u8],
+    places: &[u32],
     e: Encoding,
     i: MemberIndex,
     out: &mut [u8],
