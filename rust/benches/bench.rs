@@ -19,7 +19,7 @@ fn main() {
         return;
     }
     println!(
-        "Times in ns: pack, union and difference for each key of either operand, step and iteration for each key, the others for each call."
+        "Times in ns: pack, union and difference for each key of either operand, step, next and iteration for each key, the others for each call."
     );
     println!("Memory in bytes for each key. Ratio: library to plain Rust.");
     // widths up to the limit of 524,280 edge bits
@@ -283,7 +283,16 @@ fn table<const T: usize>(keys: Vec<[u8; T]>, shape: &'static str) -> Table {
             Some(least(n, || ha.difference(&hb).copied().collect::<HashSet<_>>())),
         ],
     );
-    row("open", compare!(1, || loes::Encoding::open(black_box(&bytes)), || plain_rust::open(black_box(&bytes))), [None; 3]);
+    // several at a time: one takes little longer than the clock
+    let opened_again = [&bytes[..]; 16];
+    row(
+        "open",
+        compare!(opened_again.len(), || each(&opened_again, |bytes| loes::Encoding::open(bytes)), || each(
+            &opened_again,
+            |bytes| plain_rust::open(bytes)
+        )),
+        [None; 3],
+    );
     let q = asked.len();
     row(
         "contains",
@@ -345,7 +354,7 @@ fn table<const T: usize>(keys: Vec<[u8; T]>, shape: &'static str) -> Table {
         }
     );
     row("step", stepped, [None; 3]);
-    let walked = compare!(
+    let stepped = compare!(
         n,
         || {
             let mut keys = encoding.keys();
@@ -357,6 +366,25 @@ fn table<const T: usize>(keys: Vec<[u8; T]>, shape: &'static str) -> Table {
             let mut cursor = plain_rust::Cursor::before();
             while plain_rust::next(&bytes, &opened, &mut cursor, &mut key).unwrap() > 0 {
                 black_box(&key);
+            }
+        }
+    );
+    row("next", stepped, [None; 3]);
+    // a buffer full of keys at a time
+    let mut many = [0; 1024];
+    let mut filled = many;
+    let walked = compare!(
+        n,
+        || {
+            let mut keys = encoding.keys();
+            while let Ok(written @ 1..) = keys.fill(&mut many) {
+                all(many[..written].as_chunks::<T>().0.iter());
+            }
+        },
+        || {
+            let mut cursor = plain_rust::Cursor::before();
+            while let Ok(written @ 1..) = plain_rust::fill(&bytes, &opened, &mut cursor, &mut filled) {
+                all(filled[..written].as_chunks::<T>().0.iter());
             }
         }
     );

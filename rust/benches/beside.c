@@ -22,6 +22,8 @@ enum { ROOM = 70000, MOST = 60000, LONGEST = 32, BUILDS = 8, ASKED = 200 };
 #define MEMBER(name) __typeof__(loes_##name) *name##_;
 struct build {
     FUNCTIONS(MEMBER)
+    /* not in every build */
+    __typeof__(loes_opened_walk) *walk;
 };
 
 static struct build builds[BUILDS];
@@ -162,6 +164,19 @@ static uint64_t advance(const struct build *b) {
 WALK(opened_advance)
 WALK(opened_next)
 
+/* Every member, a buffer full of keys at a time, or key by key where a build has no walk. */
+static uint64_t iteration(const struct build *b) {
+    static uint8_t many[1024];
+    loes_step step = {LOES_VALUE, 1, LOES_BEFORE};
+    uint64_t sum = 0;
+    memset(path, 0, sizeof path);
+    while (step.kind == LOES_VALUE && step.value > 0) {
+        step = (b->walk ? b->walk : b->opened_next_)(opened, first, first_bytes, step.state, path, LOES_CURSOR_OFFSETS, many, sizeof many);
+        for (size_t at = key_bytes; at <= step.value; at += key_bytes) sum = told(sum, step.kind, many[at - 1]);
+    }
+    return sum;
+}
+
 /* ---- Measuring ---- */
 
 /* What a call takes for each of so many things that it does. */
@@ -227,6 +242,7 @@ static void questions(const char *name, size_t n) {
     measure(name, "opened_rank", opened_rank, ASKED);
     measure(name, "opened_advance", opened_advance, n + 1);
     measure(name, "opened_next", opened_next, n + 1);
+    measure(name, "iteration", iteration, n + 1);
 }
 
 static void both(const char *name, size_t n) {
@@ -248,6 +264,7 @@ int main(int count, char **words) {
         if (!library) return 4;
 #define FIND(name) builds[build_count].name##_ = dlsym(library, "loes_" #name);
         FUNCTIONS(FIND)
+        builds[build_count].walk = dlsym(library, "loes_opened_walk");
     }
     printf("| keys | call | first, ns |");
     for (int k = 1; k < build_count; k++) printf(" %d, ns | ratio |", k + 1);

@@ -443,11 +443,16 @@ fn turns(edges: &[u8], o: usize) -> bool {
     usize::from(record(edges, o / 2)) + 4 * (o % 2) == 3
 }
 
+/// All 0, with no branch by one of them.
+fn zeros(offsets: &[u64]) -> bool {
+    offsets.iter().fold(0, |set, o| set | o) == 0
+}
+
 pub fn advance(l: &[u8], e: &Opened, cursor: &mut Cursor, out: &mut [u8]) -> Result<usize, u64> {
     let m = e.width;
     let right = match cursor.state {
-        1 => is_path(l, e, &cursor.offsets[..m]) && cursor.offsets[m..].iter().all(|o| *o == 0),
-        0 | 2 => cursor.offsets.iter().all(|o| *o == 0),
+        1 => is_path(l, e, &cursor.offsets[..m]) && zeros(&cursor.offsets[m..]),
+        0 | 2 => zeros(&cursor.offsets),
         _ => false,
     };
     if !right {
@@ -496,6 +501,16 @@ pub fn next(l: &[u8], e: &Opened, cursor: &mut Cursor, out: &mut [u8]) -> Result
     }
     cursor.state = 1;
     Ok(write_key(path, out))
+}
+
+/// That step, and if it wrote a key, as many more as the buffer has room for.
+pub fn fill(l: &[u8], e: &Opened, cursor: &mut Cursor, out: &mut [u8]) -> Result<usize, u64> {
+    let t = next(l, e, cursor, out)?;
+    let mut written = t;
+    while 0 < t && t <= out.len() - written && next(l, e, cursor, &mut out[written..])? > 0 {
+        written += t;
+    }
+    Ok(written)
 }
 
 // ---- The writer of the six fields

@@ -319,6 +319,27 @@ impl Keys<'_> {
         }
         Ok(written)
     }
+
+    /// Writes the next keys, one behind the other, as many as the buffer has room for, and tells how many bytes that are; 0 at
+    /// the end, and nothing written. Refused if there is room for none, the next key is still to come. The fastest way over
+    /// many keys: one call of the library for a buffer full of them.
+    ///
+    /// ```
+    /// # use loes::{Encoding, Refusal};
+    /// let bytes = loes::pack_to_vec(8, &[1, 5, 9])?;
+    /// let mut keys = Encoding::open(&bytes)?.keys();
+    /// let mut two = [0; 2];
+    /// assert_eq!((keys.fill(&mut two), two), (Ok(2), [1, 5]));
+    /// assert_eq!(keys.fill(&mut []), Err(Refusal::ShortBuffer));
+    /// assert_eq!((keys.fill(&mut two), two), (Ok(1), [9, 5]));
+    /// assert_eq!(keys.fill(&mut two), Ok(0));
+    /// # Ok::<(), Refusal>(())
+    /// ```
+    pub fn fill(&mut self, out: &mut [u8]) -> Result<usize, Refusal> {
+        let written = answers::length(self.walk.fill(out))?;
+        self.left -= written / self.encoding.key_len();
+        Ok(written)
+    }
 }
 
 impl Iterator for Keys<'_> {

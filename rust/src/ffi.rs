@@ -6,7 +6,7 @@
 //!   anything else that is lent;
 //! - the calls behind the check require what `loes_open` answered for the same bytes: a `Checked` is made by `open` only
 //!   and borrows those bytes, so they cannot change while it lives;
-//! - the step that does not test its cursor requires a right one: a `Walk` starts before the first member, and only its own
+//! - the steps that do not test their cursor require a right one: a `Walk` starts before the first member, and only its own
 //!   steps change its cursor, none of which is refused 15.
 
 use crate::Encoding;
@@ -78,6 +78,7 @@ extern "C" {
     fn loes_opened_rank(e: Opened, l: *const u8, n: usize, offset: u64) -> Answer;
     fn loes_opened_advance(e: Opened, l: *const u8, n: usize, state: u64, offsets: *mut u64, count: usize, out: *mut u8, m: usize) -> Step;
     fn loes_opened_next(e: Opened, l: *const u8, n: usize, state: u64, offsets: *mut u64, count: usize, out: *mut u8, m: usize) -> Step;
+    fn loes_opened_walk(e: Opened, l: *const u8, n: usize, state: u64, offsets: *mut u64, count: usize, out: *mut u8, m: usize) -> Step;
 }
 
 /// Bytes that have been opened, with what was answered for them.
@@ -200,6 +201,22 @@ impl Walk<'_> {
                 opened, bytes.as_ptr(), bytes.len(), self.state, self.offsets.as_mut_ptr(), self.offsets.len(), out.as_mut_ptr(), out.len(),
             )
         };
+        self.stepped(step)
+    }
+
+    /// A step, and as many more as the buffer has room for.
+    #[rustfmt::skip]
+    pub fn fill(&mut self, out: &mut [u8]) -> Answer {
+        let Checked { opened, bytes } = self.checked;
+        let step = unsafe {
+            loes_opened_walk(
+                opened, bytes.as_ptr(), bytes.len(), self.state, self.offsets.as_mut_ptr(), self.offsets.len(), out.as_mut_ptr(), out.len(),
+            )
+        };
+        self.stepped(step)
+    }
+
+    fn stepped(&mut self, step: Step) -> Answer {
         self.state = step.state;
         Answer { kind: step.kind, value: step.value }
     }

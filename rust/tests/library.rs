@@ -92,6 +92,10 @@ impl Subject for Library {
         answer(walk.next(out))
     }
 
+    fn fill(walk: &mut ffi::Walk<'_>, out: &mut [u8]) -> Answer {
+        answer(walk.fill(out))
+    }
+
     fn place(walk: &ffi::Walk<'_>) -> (u64, Vec<u64>) {
         (walk.state(), walk.offsets().to_vec())
     }
@@ -129,6 +133,14 @@ fn keys_in_order() {
             assert_eq!(keys.len(), left);
         }
         assert_eq!((keys.next(), keys.next()), (None, None));
+        // a buffer full at a time
+        let mut many = vec![0; key_len(width) * rng.between(1, 7) + rng.below(key_len(width))];
+        let (mut keys, mut all) = (encoding.keys(), Vec::new());
+        while let Ok(written @ 1..) = if rng.one_in(3) { keys.next_into(&mut many) } else { keys.fill(&mut many) } {
+            all.extend_from_slice(&many[..written]);
+            assert_eq!(keys.len(), set.keys.len() - all.len() / key_len(width));
+        }
+        assert_eq!((all, keys.fill(&mut [])), (batch_of(&set), Ok(0)));
         assert_eq!((encoding.is_empty(), encoding.key_len()), (set.keys.is_empty(), key_len(width)));
     });
 }

@@ -74,6 +74,10 @@ impl Subject for PlainRust {
         length(plain_rust::next(l, e, cursor, out))
     }
 
+    fn fill(((l, e), cursor): &mut Self::Walk<'_>, out: &mut [u8]) -> Answer {
+        length(plain_rust::fill(l, e, cursor, out))
+    }
+
     fn place((_, cursor): &Self::Walk<'_>) -> (u64, Vec<u64>) {
         (cursor.state, cursor.offsets.to_vec())
     }

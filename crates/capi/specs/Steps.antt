@@ -4,10 +4,12 @@ use mathlib.Core.Bool.{Bool, cond}
 use mathlib.Core.List.{List}
 use lib.Dec.{eqb, ltb}
 use Rattle.loes.specs.Bytes.{Bytes}
+use Rattle.loes.specs.Entry.{Entry}
 use Rattle.loes.specs.Refusals.{badCursor}
 use Rattle.loes.specs.Read.{Reading, rejected, opened, read}
 use Rattle.loes.specs.Model.{Answer, refused}
 use Rattle.loes.specs.Cursor.{State, before, at, after, Cursor, Advanced, advance}
+use Rattle.cursor.specs.Filling.{advances}
 use Rattle.capi.specs.declared.Step.{Step}
 use Rattle.capi.specs.Coded.{codeOf}
 
@@ -47,10 +49,18 @@ walkedBy a = walks (stepCode (a .answer) (stateCode (a .cursor .state))) (a .cur
 abbrev pub keeps : ℕ → ℕ → List ℕ → Bytes → Walked
 keeps k s os out = walks (stepCode (refused k) s) os out
 
--- the encoding's refusals, then 15 for what is no state, then the model's step
-unfoldable pub stepAfter : Reading → ℕ → List ℕ → Bytes → Walked
-stepAfter (rejected k) s os out = keeps k s os out
-stepAfter (opened e) s os out = cond (isState s) (walkedBy (advance e (cursorIn s os) out)) (keeps badCursor s os out)
+-- the encoding's refusals, then 15 for what is no state, then what the model does with an entry, a cursor and a buffer
+unfoldable pub doneAfter : (Entry → Cursor → Bytes → Advanced) → Reading → ℕ → List ℕ → Bytes → Walked
+doneAfter does (rejected k) s os out = keeps k s os out
+doneAfter does (opened e) s os out = cond (isState s) (walkedBy (does e (cursorIn s os) out)) (keeps badCursor s os out)
 
-unfoldable pub stepCall : Bytes → ℕ → List ℕ → Bytes → Walked
-stepCall l s os out = stepAfter (read l) s os out
+-- the model's step
+abbrev pub stepAfter : Reading → ℕ → List ℕ → Bytes → Walked
+stepAfter = doneAfter advance
+
+abbrev pub stepCall : Bytes → ℕ → List ℕ → Bytes → Walked
+stepCall l = stepAfter (read l)
+
+-- a step, and if it wrote a key, as many more as the buffer has room for
+abbrev pub walkCall : Bytes → ℕ → List ℕ → Bytes → Walked
+walkCall l = doneAfter advances (read l)

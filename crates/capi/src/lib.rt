@@ -15,7 +15,7 @@ ghost use Rattle.query.specs.Answers as query;
 ghost use Rattle.cursor.specs.Steps as cursor;
 ghost use Rattle.build.specs.Writing as build;
 ghost use Rattle.capi.specs.Coded.{valueKind, absentKind, says, codeOf, gives, coded, openedOf, noOpening, openingOf, encodingOf};
-ghost use Rattle.capi.specs.Steps.{walks, stateCode, stateIn, cursorIn, isState, stepCode, stepAfter, stepCall};
+ghost use Rattle.capi.specs.Steps.{walks, stateCode, stateIn, cursorIn, isState, stepCode, stepAfter, stepCall, walkCall};
 use bits::EdgeOffset;
 use bits::MemberIndex;
 use cursor::State;
@@ -433,4 +433,20 @@ pub extern "C" fn loes_opened_next(
 {
     let from = state_of(state);
     step_coded(cursor::step_right(l, encoding_of(e), from, offsets, out))
+}
+
+// That step, and if it wrote a key, as many more as the buffer has room for.
+#[no_mangle]
+pub extern "C" fn loes_opened_walk(
+    e: Opened,
+    l: &[u8],
+    state: usize,
+    offsets: &mut [usize],
+    out: &mut [u8],
+) -> Step
+    requires { ⌜ Opens (now l) (encodingOf e) × (isState state ≡ true) × (isCursorOf (entryIn (now l)) (cursorIn state (now offsets)) ≡ true) ⌝ }
+    ensures { λ r. ⌜ walks r (now (offsets .exit)) (now (out .exit)) ≡ walkCall (now (l .entry)) state (now (offsets .entry)) (now (out .entry)) ⌝ }
+{
+    let from = state_of(state);
+    step_coded(cursor::walk_right(l, encoding_of(e), from, offsets, out))
 }

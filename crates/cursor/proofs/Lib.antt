@@ -9,3 +9,4 @@ pub mod Outset
 pub mod Stepping
 pub mod Calls
 pub mod Walk
+pub mod Filling

@@ -1,13 +1,15 @@
 -- A cursor's offsets as numbers, copied one by one.
 use mathlib.Core.Path.{_≡_, refl, sym, ap, _∙_}
 use Prim.Native.Nat.{ℕ, zero, suc, _+_, _≤_, _<_}
-use mathlib.Core.Bool.{true, false}
+use mathlib.Core.Bool.{Bool, true, false, _&&_, _||_, not}
 use mathlib.Core.List.{List, [], _∷_}
 use native.Mathlib.Omega.{arith}
 use native.Mathlib.Decide.{decLe}
 use native.Mathlib.Numerals.{add-one}
 use lib.ListN.{length, drop, getD, set, length-set, length-map, drop-of-length-le}
 use lib.Seq.{drop-cons, ext-getD, getD-set-same, getD-set-other}
+use lib.Bits.{bitOr, or-add-and, and-le-r}
+use lib.Dec.{eqb}
 use borrow.Author.Tests.{ne-eqb}
 use mir.Val.{Val}
 use denote.Laws.{Is}
@@ -61,14 +63,26 @@ pub copied-all : (from to : List ℕ) (d : ℕ) → Copied from to d → length 
 copied-all from to d c h = ext-getD 0 to from (c .size) (λ j y. c .same j (omega (arith, c .size)))
 
 -- ---- Zeros
-pub zeros-more : (l : List ℕ) (i : ℕ) → i < length l → getD l i 0 ≡ 0 → allZero (drop i l) ≡ allZero (drop (i + 1) l)
-unfolding allZero any
-zeros-more l i h e = rw (add-one i, drop-cons l i 0 h, e)
+or-none : (a b : ℕ) → eqb (bitOr a b) 0 ≡ (eqb a 0 && eqb b 0)
+or-none zero b = refl
+or-none (suc a) b =
+    let n : eqb (suc a) 0 ≡ false = ne-eqb (suc a) 0 (λ z. omega (arith, z)) in
+    rw n (ne-eqb (bitOr (suc a) b) 0 (λ z. omega (arith, z, or-add-and (suc a) b, and-le-r (suc a) b)))
 
-pub zeros-not : (l : List ℕ) (i : ℕ) → i < length l → (getD l i 0 ≡ 0 → ⊥) → false ≡ allZero (drop i l)
+-- no bit is set in s and in what is left
+pub zeros-more : (l : List ℕ) (i s : ℕ) → i < length l → (eqb s 0 && allZero (drop i l)) ≡ (eqb (bitOr s (getD l i 0)) 0 && allZero (drop (i + 1) l))
 unfolding allZero any
-zeros-not l i h e = rw (drop-cons l i 0 h, ne-eqb (getD l i 0) 0 e)
+zeros-more l i s h = rw (add-one i, drop-cons l i 0 h, or-none s (getD l i 0)) (join (eqb s 0) (eqb (getD l i 0) 0) (any (λ (o : ℕ). not (eqb o 0)) (drop (suc i) l)))
+  where
+    join : (a b c : Bool) → (a && not (not b || c)) ≡ ((a && b) && not c)
+    join false b c = refl
+    join true false c = refl
+    join true true c = refl
 
-pub zeros-end : (l : List ℕ) (i : ℕ) → length l ≤ i → true ≡ allZero (drop i l)
+pub zeros-end : (l : List ℕ) (i s : ℕ) → length l ≤ i → eqb s 0 ≡ (eqb s 0 && allZero (drop i l))
 unfolding allZero any
-zeros-end l i h = rw (drop-of-length-le l {i = i} h)
+zeros-end l i s h = rw (drop-of-length-le l {i = i} h) (all (eqb s 0))
+  where
+    all : (a : Bool) → a ≡ (a && true)
+    all false = refl
+    all true = refl

@@ -2,3 +2,4 @@
 pub mod Moves
 pub mod Steps
 pub mod Walk
+pub mod Filling

@@ -12,7 +12,8 @@ ghost use Rattle.loes.specs.Cursor as spec;
 ghost use Rattle.bits.specs.Tables.{Tallies};
 ghost use Rattle.encoding.specs.Opened.{Opens};
 ghost use Rattle.cursor.specs.Moves.{leadsOn, recordCode, turns, firstEdge, behind, TurnsAt, Moved, Movable, hasPath};
-ghost use Rattle.cursor.specs.Steps.{stateOf, numbers, at, cursorOf, walkedOf, advancedOf, steppedOf};
+ghost use Rattle.cursor.specs.Steps.{stateOf, numbers, at, cursorOf, stepAnswer, walkedOf, advancedOf, steppedOf};
+ghost use Rattle.cursor.specs.Filling.{bytesIn, goesOn, advances};
 use bits::EdgeOffset;
 use bits::RecordIndex;
 use encoding::Checked;
@@ -123,19 +124,18 @@ fn is_path(l: &[u8], t: &[u8], e: Encoding, path: &[usize]) -> bool
     true
 }
 
-// Whether the offsets from a level on are all 0.
+// Whether the offsets from a level on are all 0, with no branch by one of them.
 fn zeros_from(path: &[usize], from: usize) -> bool
     requires { ⌜ from ≤ length (now path) ⌝ }
     ensures { λ r. ⌜ r ≡ spec.allZero (drop from (now (path .entry))) ⌝ }
 {
+    let mut set: usize = 0;
     let mut i = from;
     while i < path.len() {
-        if path[i] != 0 {
-            return false;
-        }
+        set |= path[i];
         i += 1;
     }
-    true
+    set == 0
 }
 
 // Whether offsets are a member's path with zeros behind it.
@@ -334,6 +334,56 @@ pub fn step_right(l: &[u8], e: Encoding, s: State, path: &mut [usize], out: &mut
             state: State::After,
         },
     }
+}
+
+// ---- A walk in one call, behind the check
+// The bytes that a step wrote: none if it was refused.
+fn bytes_of(answer: Step) -> usize
+    ensures { λ r. ⌜ r ≡ bytesIn (stepAnswer answer) ⌝ }
+{
+    match answer {
+        Step::Refused(_) => 0,
+        Step::Wrote(n) => n,
+    }
+}
+
+// Goes on from a member's path while the buffer has room for a key behind byte `from`, each key behind the one before.
+fn steps_on(l: &[u8], e: Encoding, path: &mut [usize], from: usize, out: &mut [u8]) -> Walked
+    requires { ⌜ Opens (now l) e × (spec.isCursorOf (entryIn (now l)) (at spec.at (now path)) ≡ true) × (from ≤ length (now out)) ⌝ }
+    ensures { λ r. ⌜ walkedOf r (now (path .exit)) (now (out .exit)) ≡ goesOn (length (now (out .entry))) (entryIn (now (l .entry))) from (now (out .entry)) (at spec.at (now (path .entry))) ⌝ }
+{
+    let t = (e.width + 7) / 8;
+    let mut at = from;
+    while t <= out.len() - at {
+        let w = step_right(l, e, State::At, path, &mut out[at..]);
+        let answer = w.answer;
+        let n = bytes_of(answer);
+        if n == 0 {
+            return Walked {
+                answer: Step::Wrote(at),
+                state: State::After,
+            };
+        }
+        at += n;
+    }
+    Walked {
+        answer: Step::Wrote(at),
+        state: State::At,
+    }
+}
+
+// From a right cursor: a step, and if it wrote a key, as many more as the buffer has room for.
+pub fn walk_right(l: &[u8], e: Encoding, s: State, path: &mut [usize], out: &mut [u8]) -> Walked
+    requires { ⌜ Opens (now l) e × (spec.isCursorOf (entryIn (now l)) (at (stateOf s) (now path)) ≡ true) ⌝ }
+    ensures { λ r. ⌜ walkedOf r (now (path .exit)) (now (out .exit)) ≡ advances (entryIn (now (l .entry))) (at (stateOf s) (now (path .entry))) (now (out .entry)) ⌝ }
+{
+    let w = step_right(l, e, s, path, out);
+    let answer = w.answer;
+    let n = bytes_of(answer);
+    if n == 0 {
+        return w;
+    }
+    steps_on(l, e, path, n, out)
 }
 
 // From any cursor: 15, then 14 unless it goes to after.

@@ -68,6 +68,10 @@ int main(void) {
     REQUIRE(step.kind == LOES_REFUSED && step.value == LOES_BAD_CURSOR && step.state == 3 && offsets[2] == 10);
     step = loes_opened_advance(opened, set, sizeof set, state, offsets, LOES_CURSOR_OFFSETS, key, 0);
     REQUIRE(step.kind == LOES_VALUE && step.value == 0 && step.state == LOES_AFTER && offsets[0] == 0);
+    step = loes_opened_walk(opened, set, sizeof set, LOES_BEFORE, offsets, LOES_CURSOR_OFFSETS, key, 2);
+    REQUIRE(step.kind == LOES_VALUE && step.value == 2 && step.state == LOES_AT && memcmp(key, batch, 2) == 0);
+    step = loes_opened_walk(opened, set, sizeof set, step.state, offsets, LOES_CURSOR_OFFSETS, key, 2);
+    REQUIRE(step.kind == LOES_VALUE && step.value == 1 && step.state == LOES_AFTER && key[0] == batch[2] && offsets[0] == 0);
     printf("%u %u %u %u %u %u %u\n", LOES_MAX_WIDTH, LOES_MAX_EDGES, LOES_BLOCK_BITS, LOES_SUB_BLOCK_BITS, LOES_MAX_BYTES,
            LOES_MAX_KEY_BYTES, LOES_CURSOR_OFFSETS);
     puts("right");

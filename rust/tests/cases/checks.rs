@@ -232,6 +232,7 @@ pub fn check_walk<S: Subject>(rng: &mut Rng, laid: &Laid, damage: usize) {
             assert_eq!(S::place(&own), (place.state, place.offsets.clone()), "{}: the cursor after it", what());
         }
     }
+    check_filled::<S>(rng, laid, &bytes, &opened, &places);
     for _ in 0..damage {
         let cursor = damaged_cursor(rng, laid, &places);
         let step = |cursor: &mut Cursor, out: &mut [u8]| match cursor.offsets.len() {
@@ -240,6 +241,28 @@ pub fn check_walk<S: Subject>(rng: &mut Rng, laid: &Laid, damage: usize) {
         };
         let room = *rng.pick(&[0, t - 1, t, t + 5]);
         check_step::<S>(rng, &bytes, &opened, &cursor, &step, room);
+    }
+}
+
+/// A walk with a cursor of its own, until it was at its end twice: each call writes as many keys as have room, one behind the
+/// other, and goes to after where there is room for more than are left; 14 where a key is left and none has room.
+fn check_filled<S: Subject>(rng: &mut Rng, laid: &Laid, bytes: &[u8], opened: &S::Opened<'_>, places: &[&Cursor]) {
+    let t = key_len(laid.width());
+    let (mut walk, mut from, mut ends) = (S::walk(opened), 0, 0);
+    while ends < 2 {
+        let room = *rng.pick(&[0, t - 1, t, t, t + 1, 2 * t - 1, 2 * t, 3 * t + 2, 20 * t, 1_024]);
+        let left: Vec<&Key> = laid.set.keys.iter().skip(from).collect();
+        let keys = left.len().min(room / t);
+        let what = || format!("{room} bytes of keys from place {from} of the walk over {}", shown(bytes));
+        let fill = |out: &mut [u8]| match keys == 0 && !left.is_empty() {
+            true => Err(14),
+            false => plain::write(&left[..keys].iter().flat_map(|key| key.iter().copied()).collect::<Key>(), out),
+        };
+        same(rng, room, &what, fill, |out| S::fill(&mut walk, out));
+        let to = if left.is_empty() || left.len() < room / t { places.len() - 1 } else { from + keys };
+        assert_eq!(S::place(&walk), (places[to].state, places[to].offsets.clone()), "{}: the cursor after it", what());
+        ends += usize::from(left.is_empty());
+        from = to;
     }
 }
 

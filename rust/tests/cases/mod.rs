@@ -50,6 +50,8 @@ pub trait Subject {
     fn advance_opened(opened: &Self::Opened<'_>, state: u64, offsets: &mut [u64], out: &mut [u8]) -> (Answer, u64);
     fn walk<'a>(opened: &Self::Opened<'a>) -> Self::Walk<'a>;
     fn next(walk: &mut Self::Walk<'_>, out: &mut [u8]) -> Answer;
+    /// As many keys as have room.
+    fn fill(walk: &mut Self::Walk<'_>, out: &mut [u8]) -> Answer;
     /// The walk's cursor: its state and its offsets.
     fn place(walk: &Self::Walk<'_>) -> (u64, Vec<u64>);
 }

@@ -1,5 +1,6 @@
 use mathlib.Core.Path.{subst}
 use Rattle.encoding.specs.Fields.{Checks}
+use Rattle.loes.specs.Cursor.{advance}
 use Rattle.capi.proofs.Steps.{call-kept, call-on}
 use borrow.Author.Needs.{needs}
 use Rattle.capi.proofs.loes_advance.Statement.{statement}
@@ -39,7 +40,7 @@ same-length-2 : tie.Need-same-length-2
 same-length-2 c = search needs
 
 returns-2 : tie.Need-returns-2
-returns-2 c = call-on _ _ _ _ _ _ (subst (Checks _) (c .before .before .before .before .before .before .before .before .before .e .given .1) (c .before .before .before .before .before .before .before .before .before .before .before .check .ensures)) (c .before .before .before .before .step-in .ensures)
+returns-2 c = call-on advance _ _ _ _ _ _ (subst (Checks _) (c .before .before .before .before .before .before .before .before .before .e .given .1) (c .before .before .before .before .before .before .before .before .before .before .before .check .ensures)) (c .before .before .before .before .step-in .ensures)
 
 pub loes-advance-spec : {M : Type 1} → statement M
 loes-advance-spec =

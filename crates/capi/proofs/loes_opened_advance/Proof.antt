@@ -1,5 +1,6 @@
 use mathlib.Core.Path.{sym, subst}
 use Rattle.encoding.specs.Opened.{Opens}
+use Rattle.loes.specs.Cursor.{advance}
 use Rattle.capi.proofs.Steps.{call-on}
 use borrow.Author.Needs.{needs}
 use Rattle.capi.proofs.loes_opened_advance.Statement.{statement}
@@ -24,7 +25,7 @@ same-length-2 : tie.Need-same-length-2
 same-length-2 c = search needs
 
 returns : tie.Need-returns
-returns c = call-on _ _ _ _ _ _ (c .before .before .before .before .before .before .before .before .before .before .before .before .before .pre) (c .before .before .before .before .step-in .ensures)
+returns c = call-on advance _ _ _ _ _ _ (c .before .before .before .before .before .before .before .before .before .before .before .before .before .pre) (c .before .before .before .before .step-in .ensures)
 
 pub loes-opened-advance-spec : {M : Type 1} → statement M
 loes-opened-advance-spec =

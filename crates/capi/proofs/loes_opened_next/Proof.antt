@@ -1,5 +1,6 @@
 use mathlib.Core.Path.{sym, subst}
 use Rattle.encoding.specs.Opened.{Opens}
+use Rattle.loes.specs.Cursor.{advance}
 use Rattle.capi.proofs.Steps.{state-is, right-coded, walked-on, call-on}
 use borrow.Author.Needs.{needs}
 use Rattle.capi.proofs.loes_opened_next.Statement.{statement}
@@ -28,7 +29,7 @@ same-length-2 c = search needs
 returns : tie.Need-returns
 returns c =
     let s = c .before .before .before .before .before .before .before .before .before .before .before .before .before in
-    call-on _ _ _ _ _ _ (s .pre .0) (walked-on _ _ _ _ _ _ (c .before .before .before .before .before .before .before .before .before .state-of .result) (c .before .before .before .before .before .step-right .result) _ (s .pre .1) (c .before .before .before .before .before .before .before .before .before .state-of .ensures) (c .before .before .before .before .before .step-right .ensures) (c .step-coded .ensures))
+    call-on advance _ _ _ _ _ _ (s .pre .0) (walked-on advance _ _ _ _ _ _ (c .before .before .before .before .before .before .before .before .before .state-of .result) (c .before .before .before .before .before .step-right .result) _ (s .pre .1) (c .before .before .before .before .before .before .before .before .before .state-of .ensures) (c .before .before .before .before .before .step-right .ensures) (c .step-coded .ensures))
 
 pub loes-opened-next-spec : {M : Type 1} → statement M
 loes-opened-next-spec =

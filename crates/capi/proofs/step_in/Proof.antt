@@ -1,3 +1,4 @@
+use Rattle.loes.specs.Cursor.{advance}
 use Rattle.capi.proofs.Steps.{no-state, is-state, not-coded, walked-on}
 use borrow.Author.Needs.{needs}
 use Rattle.capi.proofs.step_in.Statement.{statement}
@@ -25,7 +26,7 @@ same-length-2 : tie.Need-same-length-2
 same-length-2 c = search needs
 
 returns-2 : tie.Need-returns-2
-returns-2 c = walked-on _ _ _ _ _ _ (c .before .before .before .before .before .before .before .before .state-of .result) (c .before .before .before .before .before .step-any .result) _ (is-state _ (c .before .before .before .before .before .before .before .before .before .if1 .left)) (c .before .before .before .before .before .before .before .before .state-of .ensures) (c .before .before .before .before .before .step-any .ensures) (c .step-coded .ensures)
+returns-2 c = walked-on advance _ _ _ _ _ _ (c .before .before .before .before .before .before .before .before .state-of .result) (c .before .before .before .before .before .step-any .result) _ (is-state _ (c .before .before .before .before .before .before .before .before .before .if1 .left)) (c .before .before .before .before .before .before .before .before .state-of .ensures) (c .before .before .before .before .before .step-any .ensures) (c .step-coded .ensures)
 
 pub step-in-spec : {M : Type 1} → statement M
 step-in-spec =
