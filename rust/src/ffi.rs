@@ -176,6 +176,9 @@ impl<'a> Checked<'a> {
     }
 }
 
+/// One of the two steps that do not test their cursor.
+type OwnStep = unsafe extern "C" fn(Opened, *const u8, usize, u64, *mut u64, usize, *mut u8, usize) -> Step;
+
 /// A walk over checked bytes from before the first member, with a cursor of its own.
 #[derive(Clone)]
 pub struct Walk<'a> {
@@ -193,30 +196,21 @@ impl Walk<'_> {
         &self.offsets
     }
 
-    #[rustfmt::skip]
     pub fn next(&mut self, out: &mut [u8]) -> Answer {
-        let Checked { opened, bytes } = self.checked;
-        let step = unsafe {
-            loes_opened_next(
-                opened, bytes.as_ptr(), bytes.len(), self.state, self.offsets.as_mut_ptr(), self.offsets.len(), out.as_mut_ptr(), out.len(),
-            )
-        };
-        self.stepped(step)
+        self.step(loes_opened_next, out)
     }
 
     /// A step, and as many more as the buffer has room for.
-    #[rustfmt::skip]
     pub fn fill(&mut self, out: &mut [u8]) -> Answer {
-        let Checked { opened, bytes } = self.checked;
-        let step = unsafe {
-            loes_opened_walk(
-                opened, bytes.as_ptr(), bytes.len(), self.state, self.offsets.as_mut_ptr(), self.offsets.len(), out.as_mut_ptr(), out.len(),
-            )
-        };
-        self.stepped(step)
+        self.step(loes_opened_walk, out)
     }
 
-    fn stepped(&mut self, step: Step) -> Answer {
+    #[rustfmt::skip]
+    fn step(&mut self, by: OwnStep, out: &mut [u8]) -> Answer {
+        let Checked { opened, bytes } = self.checked;
+        let step = unsafe {
+            by(opened, bytes.as_ptr(), bytes.len(), self.state, self.offsets.as_mut_ptr(), self.offsets.len(), out.as_mut_ptr(), out.len())
+        };
         self.state = step.state;
         Answer { kind: step.kind, value: step.value }
     }

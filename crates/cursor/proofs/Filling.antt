@@ -5,18 +5,19 @@ use mathlib.Core.Bool.{Bool, true, false}
 use mathlib.Core.List.{List, [], append-nil}
 use native.Mathlib.Omega.{arith}
 use lib.ListN.{length, drop, length-append, length-drop, length-take, drop-of-length-le}
-use lib.Seq.{take-all}
 use lib.Dec.{eqb, ltb}
 use borrow.Rule.Slice.PartMut.{midOf, putMid, put-same}
 use Rattle.loes.specs.Bytes.{Bytes, started, packBits, front}
 use Rattle.loes.specs.Keys.{Key}
 use Rattle.loes.specs.Entry.{Entry, keyBytes, Valid}
-use Rattle.loes.specs.Refusals.{shortBuffer, test, firstOf}
+use Rattle.loes.specs.Refusals.{shortBuffer}
 use Rattle.loes.specs.Cursor as spec
-use Rattle.loes.specs.Cursor.{Cursor, Advanced, isCursorOf, nextIndex, hasNext, nextKey, goesTo, goesToAfter, stays, staysOr, advanceTests, advance}
+use Rattle.loes.specs.Cursor.{Cursor, Advanced, isCursorOf, nextIndex, hasNext, nextKey, goesTo, goesToAfter, stays, advance}
+use Rattle.loes.proofs.Lists.{rest-is}
 use Rattle.loes.proofs.Tests.{lt-yes, lt-no, yes-lt, no-lt, eq-no}
 use Rattle.loes.proofs.Members.{key-bytes}
-use Rattle.loes.proofs.Cursors.{noOffsets, cursorAt, right-at, right-none, right-parts}
+use Rattle.loes.proofs.Cursors.{noOffsets, cursorAt, right-at, right-none, right-parts, advance-on, advance-out}
+use Rattle.cursor.proofs.Stepping.{step-short}
 use Rattle.cursor.specs.declared.Walked.{Walked}
 use Rattle.cursor.specs.Steps.{stateOf, at, stepAnswer, walkedOf}
 use Rattle.cursor.specs.Filling.{bytesIn, putAt, leaves, goesOn, more, advances}
@@ -31,16 +32,16 @@ some-bytes e v = omega (arith, v .positive)
 -- ---- A step from a right cursor
 module _ (e : Entry) (c : Cursor) (r : isCursorOf e c ≡ true) where
   goes-on : (out : Bytes) → hasNext e c ≡ true → keyBytes (e .width) ≤ length out → advance e c out ≡ goesTo e (nextKey e c) out
-  unfolding advance advanceTests firstOf test staysOr
-  goes-on out h g = rw (r, h, lt-no _ _ g)
+  unfolding hasNext nextKey goesTo cursorAt
+  goes-on out h = advance-on e c out (nextIndex e c) r refl (yes-lt _ _ h)
 
   goes-out : (out : Bytes) → hasNext e c ≡ false → advance e c out ≡ goesToAfter out
-  unfolding advance advanceTests firstOf test staysOr
-  goes-out out h = rw (r, h)
+  unfolding hasNext goesToAfter noOffsets
+  goes-out out h = advance-out e c out r (no-lt _ _ h)
 
   goes-short : (out : Bytes) → hasNext e c ≡ true → length out < keyBytes (e .width) → advance e c out ≡ stays shortBuffer c out
-  unfolding advance advanceTests firstOf test staysOr
-  goes-short out h g = rw (r, h, lt-yes _ _ g)
+  unfolding hasNext stays
+  goes-short out h g = sym (step-short e c out (nextIndex e c) r refl (yes-lt _ _ h) g)
 
   -- if it wrote bytes, it went to the next member
   goes-some : (out : Bytes) → (bytesBy (advance e c out) ≡ 0 → ⊥) → (hasNext e c ≡ true) × (keyBytes (e .width) ≤ length out)
@@ -65,15 +66,12 @@ after-right e out = right-none e .1
 
 -- ---- The part of a buffer behind n bytes, lent and handed back
 module _ (n : ℕ) (out : Bytes) (h : n ≤ length out) where
-  all-behind : midOf n (length out - n) out ≡ drop n out
-  all-behind = take-all (length out - n) (drop n out) (omega (arith, length-drop n out))
-
   put-key : (k : Key) (ys : Bytes) → ys ≡ front (packBits k) (midOf n (length out - n) out) → putMid n (length out - n) out ys ≡ putAt n k out
   unfolding putAt
   put-key k ys q =
       let z : length (drop n out) ≤ length out - n = omega (arith, length-drop n out) in
       let gone : drop (length out - n) (drop n out) ≡ [] = drop-of-length-le (drop n out) z in
-      rw (gone, append-nil, q, all-behind)
+      rw (gone, append-nil, q, rest-is out n)
 
   length-put : (k : Key) → n + length (packBits k) ≤ length out → length (putAt n k out) ≡ length out
   unfolding putAt front
@@ -148,7 +146,7 @@ module _ (e : Entry) (from : ℕ) (os₀ : List ℕ) (out₀ : Bytes) (os : List
     -- a step into the part behind, which says m bytes
     module _ (x : Walked) (os' : List ℕ) (ys : Bytes) (told : walkedOf x os' ys ≡ advance e c part) (m : ℕ) (em : m ≡ bytesIn (stepAnswer (x .answer))) where
       went : hasNext e c ≡ true → walkedOf x os' ys ≡ goesTo e (nextKey e c) part
-      went h = told ∙ goes-on e c (w .right) part h (omega (arith, room, ap length (all-behind n out (w .inside)), length-drop n out))
+      went h = told ∙ goes-on e c (w .right) part h (omega (arith, room, ap length (rest-is out n), length-drop n out))
 
       left : hasNext e c ≡ false → walkedOf x os' ys ≡ goesToAfter part
       left h = told ∙ goes-out e c (w .right) part h

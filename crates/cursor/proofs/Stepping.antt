@@ -56,7 +56,7 @@ pub step-wrong : (e : Entry) (p : Cursor) (out : Bytes) → isCursorOf e p ≡ f
 unfolding advance advanceTests hasNext firstOf test staysOr stays
 step-wrong e p out r = rw r
 
-step-short : (e : Entry) (p : Cursor) (out : Bytes) (j : ℕ) → isCursorOf e p ≡ true → nextIndex e p ≡ j → j < count e → length out < keyBytes (e .width)
+pub step-short : (e : Entry) (p : Cursor) (out : Bytes) (j : ℕ) → isCursorOf e p ≡ true → nextIndex e p ≡ j → j < count e → length out < keyBytes (e .width)
     → record { answer = refused shortBuffer; buffer = out; cursor = p } ≡ advance e p out
 unfolding advance advanceTests hasNext firstOf test staysOr stays
 step-short e p out j r n h g = rw (r, n, lt-yes j (count e) h, lt-yes (length out) (keyBytes (e .width)) g)
