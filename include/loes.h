@@ -176,9 +176,9 @@ loes_step loes_opened_next(loes_opened opened, const uint8_t *encoding, size_t l
                            uint64_t state, uint64_t *offsets, size_t count, uint8_t *out, size_t room);
 
 /* That step, and if it wrote a key, as many more as the buffer has room for, each key behind the one
- * before: `value` is the bytes of all of them. The cursor is at the last of them, or after if there was
- * room for one more and no member left. REQUIRED besides: as for loes_opened_next. The only refusal is
- * 14, if a member is left and the first key has no room. */
+ * before: `value` is the bytes of all of them. The cursor is then at the last of them, or after: if the
+ * first step goes there, or a later one that has room for a key. REQUIRED besides: as for
+ * loes_opened_next. The only refusal is 14, if a member is left and the first key has no room. */
 loes_step loes_opened_walk(loes_opened opened, const uint8_t *encoding, size_t length,
                            uint64_t state, uint64_t *offsets, size_t count, uint8_t *out, size_t room);
 

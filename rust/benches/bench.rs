@@ -283,7 +283,7 @@ fn table<const T: usize>(keys: Vec<[u8; T]>, shape: &'static str) -> Table {
             Some(least(n, || ha.difference(&hb).copied().collect::<HashSet<_>>())),
         ],
     );
-    // several at a time: one takes little longer than the clock
+    // several at a time: in a small set one takes little longer than the clock
     let opened_again = [&bytes[..]; 16];
     row(
         "open",

@@ -321,8 +321,8 @@ impl Keys<'_> {
     }
 
     /// Writes the next keys, one behind the other, as many as the buffer has room for, and tells how many bytes that are; 0 at
-    /// the end, and nothing written. Refused if there is room for none, the next key is still to come. The fastest way over
-    /// many keys: one call of the library for a buffer full of them.
+    /// the end, and nothing written. Refused if a key is left and there is room for none; it is then still to come. The
+    /// fastest way over many keys: one call of the library for a buffer full of them.
     ///
     /// ```
     /// # use loes::{Encoding, Refusal};

@@ -205,6 +205,7 @@ impl Walk<'_> {
         self.step(loes_opened_walk, out)
     }
 
+    /// The step is one of the two above, and the cursor right: only this function changes it.
     #[rustfmt::skip]
     fn step(&mut self, by: OwnStep, out: &mut [u8]) -> Answer {
         let Checked { opened, bytes } = self.checked;
