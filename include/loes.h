@@ -8,17 +8,22 @@
  *
  * Conventions, for every call:
  *
- *   - Byte strings are lent as a pointer and a length. The pointer is never null, also where the
- *     length is 0. What is lent as `const` is only read; what is lent for output shares no byte
- *     with anything else lent to the same call. Two encodings may be the same bytes.
  *   - Any content and any length is legal. Nothing is trusted: an encoding is checked whole before
- *     it is used. (The loes_opened_ calls at the end are the exception; they say what they require.)
+ *     it is used, and keys, indexes, offsets, cursors and output buffers are tested.
  *   - A refused call answers with the number of the first refusal that holds, in the order of the
  *     call, and changes nothing: every lent byte and every offset keeps its value.
  *   - An accepted result stands at the front of the output buffer; the bytes behind it keep their
  *     values.
  *   - No call allocates, keeps a pointer or has state of its own; every call may be made from
- *     several threads at once. What a call works with is on the stack: allow it 1 MiB.
+ *     several threads at once.
+ *
+ * Asked of the caller, as C cannot say it otherwise:
+ *
+ *   - Byte strings are lent as a pointer and a length, cursors as a pointer. A pointer is never null,
+ *     also where the length is 0, and what it points to is there, as long as the length says. What
+ *     is lent as `const` is only read; what is lent for output shares no byte with anything else
+ *     lent to the same call. Two encodings may be the same bytes.
+ *   - What a call works with is on the stack: STACK_TEXT.
  *
  * Link with target/staticlib/libcapi.a, made by `rt staticlib capi`.
  */
@@ -65,13 +70,6 @@ typedef enum loes_refusal {
     LOES_BAD_CURSOR = 15      /* a cursor that is neither before, nor after, nor the path of a member, or has an unused offset other than 0 */
 } loes_refusal;
 
-/* The kinds of an answer. */
-enum {
-    LOES_VALUE = 0,  /* `value` is the answer */
-    LOES_ABSENT = 1, /* the key is absent, or there is none */
-    LOES_REFUSED = 2 /* refused; `value` (in loes_opened: `width`) is a loes_refusal */
-};
-
 /* The states of a cursor. */
 enum {
     LOES_BEFORE = 0, /* before the first member; every offset is 0 */
@@ -79,27 +77,35 @@ enum {
     LOES_AFTER = 2   /* after the last member; every offset is 0 */
 };
 
+/* Two counts that are not the same: a call that wants one does not take the other. */
+typedef struct loes_member_index {
+    uint64_t index; /* of a member among the members in order: how many are smaller */
+} loes_member_index;
+
+typedef struct loes_edge_offset {
+    uint64_t offset; /* in the edge sequence, in bits */
+} loes_edge_offset;
+
+/* What a call answers. */
 typedef struct loes_answer {
-    uint64_t kind;
-    uint64_t value;
+    uint32_t refusal; /* 0: not refused; else a loes_refusal */
+    uint32_t found;   /* 1: there is what was asked for; 0: refused, or the key is absent, or there is none */
+    uint64_t value;   /* the answer; 0 unless found */
 } loes_answer;
 
-/* An opened encoding: its numbers, and where the bodies of fields 4 to 6 begin. */
+/* The numbers of an encoding; all 0 if it is refused. */
 typedef struct loes_opened {
-    uint64_t kind;       /* LOES_VALUE: opened; LOES_REFUSED: refused, with the number in `width` */
-    uint64_t width;      /* bits of a key */
-    uint64_t count;      /* members */
-    uint64_t bits;       /* edge bits */
-    uint64_t edges;      /* place of the body of field 4 */
-    uint64_t blocks;     /* of field 5 */
-    uint64_t sub_blocks; /* of field 6 */
+    uint32_t refusal; /* 0: not refused; else a loes_refusal */
+    uint32_t width;   /* bits of a key */
+    uint64_t count;   /* members */
+    uint64_t bits;    /* edge bits */
 } loes_opened;
 
-typedef struct loes_step {
-    uint64_t kind;  /* LOES_VALUE or LOES_REFUSED */
-    uint64_t value; /* bytes written, 0 if the cursor is now after; or the refusal */
-    uint64_t state; /* the cursor's state after the step */
-} loes_step;
+/* A place in a walk over the members; all 0 is before the first. */
+typedef struct loes_cursor {
+    uint64_t state;
+    loes_edge_offset offsets[LOES_CURSOR_OFFSETS]; /* one for each level; those that it does not use are 0 */
+} loes_cursor;
 
 /* ---- Opening ---- */
 
@@ -107,7 +113,7 @@ typedef struct loes_step {
  * front 1 (head), 2, 3, 1 (body), with 4 after field 1 and 5 after field 3; then 6, then 7. */
 loes_opened loes_open(const uint8_t *encoding, size_t length);
 
-/* ---- Building: the value is the length of the encoding written to the front of `out` ---- */
+/* ---- Building: found, if not refused, and the value is the length of the encoding at the front of `out` ---- */
 
 /* The encoding of the keys of a batch: keys of `width` bits laid end to end in rising order, equal
  * neighbours counting once. Refusals: 4, 10, then key by key 11 and 12, then 5, 14. */
@@ -123,64 +129,33 @@ loes_answer loes_difference(const uint8_t *first, size_t first_length, const uin
 
 /* ---- Questions. Refusals: those of opening, then the one named ---- */
 
-/* Whether the key is a member: LOES_VALUE with 1, or LOES_ABSENT. Refusal 8. */
+/* Whether the key is a member: found, with value 1, or not. Refusal 8. */
 loes_answer loes_contains(const uint8_t *encoding, size_t length, const uint8_t *key, size_t key_length);
 
-/* The key's member index, how many members are smaller; or LOES_ABSENT. Refusal 8. */
+/* The key's member index, if it is a member. Refusal 8. */
 loes_answer loes_index_of(const uint8_t *encoding, size_t length, const uint8_t *key, size_t key_length);
 
-/* The member index of the smallest member not below the key; LOES_ABSENT if there is none. Refusal 8. */
+/* The member index of the smallest member not below the key, if there is one. Refusal 8. */
 loes_answer loes_lower_bound(const uint8_t *encoding, size_t length, const uint8_t *key, size_t key_length);
 
-/* Writes the key of a member index to the front of `out`; the value is its length. Refusals 9, 14. */
-loes_answer loes_key_at(const uint8_t *encoding, size_t length, uint64_t index, uint8_t *out, size_t room);
+/* Writes the key of a member index to the front of `out`: found, and the value is its length. Refusals 9, 14. */
+loes_answer loes_key_at(const uint8_t *encoding, size_t length, loes_member_index index, uint8_t *out, size_t room);
 
-/* The set edge bits at offsets 0 to `offset`, `offset` included. Refusal 9. */
-loes_answer loes_rank(const uint8_t *encoding, size_t length, uint64_t offset);
+/* The set edge bits at offsets 0 to `offset`, `offset` included: found, with their number. Refusal 9. */
+loes_answer loes_rank(const uint8_t *encoding, size_t length, loes_edge_offset offset);
 
 /* ---- Walking ---- */
 
-/* Moves a cursor on to the next member and writes that member's key to the front of `out`. A
- * cursor is a state and LOES_CURSOR_OFFSETS offsets; it starts as LOES_BEFORE with every offset 0.
- * The offsets are changed in place, the new state is answered and is to be given to the next call.
- * From before it goes to the first member, from the last member to after, and after stays after;
- * going to after writes nothing and the value is 0. Refusals, after those of opening: 15 (also for
- * a state that is none of the three and a `count` other than 256), 14 (not when going to after). */
-loes_step loes_advance(const uint8_t *encoding, size_t length, uint64_t state, uint64_t *offsets, size_t count,
-                       uint8_t *out, size_t room);
-
-/*
- * ---- Behind the check ----
+/* Moves the cursor on to the next member and writes that member's key to the front of `out`: found,
+ * and the value is the key's length. From before it goes to the first member, from the last member
+ * to after, and after stays after; going to after writes nothing and is not found. Refusals, after
+ * those of opening: 15 (also for a state that is none of the three), 14 (not when going to after).
  *
- * The same calls on an encoding that has been opened: they do not check it again. REQUIRED of the
- * caller: `opened` is what loes_open answered, with kind LOES_VALUE, for exactly these bytes and
- * this length, and the bytes have not changed since. Otherwise the behaviour is undefined. Keys,
- * indices, offsets, cursors and output buffers are tested as above, with the same refusals.
+ *     loes_cursor cursor = {LOES_BEFORE, {{0}}};
+ *     while (loes_advance(set, length, &cursor, key, sizeof key).found)
+ *         ...;
  */
-loes_answer loes_opened_contains(loes_opened opened, const uint8_t *encoding, size_t length,
-                                 const uint8_t *key, size_t key_length);
-loes_answer loes_opened_index_of(loes_opened opened, const uint8_t *encoding, size_t length,
-                                 const uint8_t *key, size_t key_length);
-loes_answer loes_opened_lower_bound(loes_opened opened, const uint8_t *encoding, size_t length,
-                                    const uint8_t *key, size_t key_length);
-loes_answer loes_opened_key_at(loes_opened opened, const uint8_t *encoding, size_t length,
-                               uint64_t index, uint8_t *out, size_t room);
-loes_answer loes_opened_rank(loes_opened opened, const uint8_t *encoding, size_t length, uint64_t offset);
-loes_step loes_opened_advance(loes_opened opened, const uint8_t *encoding, size_t length,
-                              uint64_t state, uint64_t *offsets, size_t count, uint8_t *out, size_t room);
-
-/* loes_opened_advance without its test of the cursor (15), several times faster. REQUIRED besides: the
- * cursor is right, that is, LOES_BEFORE with every offset 0, or as a step over these bytes left it
- * that was not refused 15. The only refusal is 14. */
-loes_step loes_opened_next(loes_opened opened, const uint8_t *encoding, size_t length,
-                           uint64_t state, uint64_t *offsets, size_t count, uint8_t *out, size_t room);
-
-/* That step, and if it wrote a key, as many more as the buffer has room for, each key behind the one
- * before: `value` is the bytes of all of them. The cursor is then at the last of them, or after: if the
- * first step goes there, or a later one that has room for a key. REQUIRED besides: as for
- * loes_opened_next. The only refusal is 14, if a member is left and the first key has no room. */
-loes_step loes_opened_walk(loes_opened opened, const uint8_t *encoding, size_t length,
-                           uint64_t state, uint64_t *offsets, size_t count, uint8_t *out, size_t room);
+loes_answer loes_advance(const uint8_t *encoding, size_t length, loes_cursor *cursor, uint8_t *out, size_t room);
 
 #ifdef __cplusplus
 }

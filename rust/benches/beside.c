@@ -15,22 +15,37 @@
 
 enum { ROOM = 70000, MOST = 60000, LONGEST = 32, BUILDS = 8, ASKED = 200 };
 
+/* The functions behind the check, which stand in no header: an encoding by the numbers that loes_open told of its bytes. */
+typedef struct step {
+    loes_answer answer;
+    uint64_t state;
+} step;
+#define ENCODING uint64_t width, uint64_t count, uint64_t bits, const uint8_t *encoding, size_t length
+typedef loes_answer key_asked(ENCODING, const uint8_t *key, size_t key_length);
+typedef step stepped(ENCODING, uint64_t state, uint64_t *offsets, size_t offset_count, uint8_t *out, size_t room);
+key_asked loes_unchecked_contains, loes_unchecked_index_of, loes_unchecked_lower_bound;
+loes_answer loes_unchecked_key_at(ENCODING, loes_member_index index, uint8_t *out, size_t room);
+loes_answer loes_unchecked_rank(ENCODING, loes_edge_offset offset);
+stepped loes_unchecked_advance, loes_unchecked_next, loes_unchecked_walk;
+
 /* The functions of a build. */
 #define FUNCTIONS(F) \
     F(open) F(pack) F(union) F(difference) F(contains) F(index_of) F(lower_bound) F(key_at) F(rank) F(advance) \
-    F(opened_contains) F(opened_index_of) F(opened_lower_bound) F(opened_key_at) F(opened_rank) F(opened_advance) F(opened_next)
+    F(unchecked_contains) F(unchecked_index_of) F(unchecked_lower_bound) F(unchecked_key_at) F(unchecked_rank) \
+    F(unchecked_advance) F(unchecked_next) F(unchecked_walk)
 #define MEMBER(name) __typeof__(loes_##name) *name##_;
 struct build {
     FUNCTIONS(MEMBER)
-    /* not in every build */
-    __typeof__(loes_opened_walk) *walk;
 };
 
 static struct build builds[BUILDS];
 static int build_count, repetitions, wrong;
 static uint8_t keys[MOST][LONGEST], batch[MOST * LONGEST], first[ROOM], second[ROOM], out[ROOM], expected[ROOM];
 static uint8_t asked[ASKED][LONGEST];
-static uint64_t indices[ASKED], offsets[ASKED], path[LOES_CURSOR_OFFSETS];
+static loes_member_index indices[ASKED];
+static loes_edge_offset offsets[ASKED];
+static uint64_t path[LOES_CURSOR_OFFSETS];
+static loes_cursor cursor;
 static size_t key_bytes, batch_bytes, first_bytes, second_bytes;
 static loes_opened opened;
 static uint64_t state;
@@ -102,7 +117,7 @@ static size_t packed(size_t n, chosen *has, uint8_t *to) {
             batch_bytes += key_bytes;
         }
     loes_answer a = builds[0].pack_(8 * key_bytes, batch, batch_bytes, to, ROOM);
-    if (a.kind != LOES_VALUE) exit(2);
+    if (a.refusal) exit(2);
     return a.value;
 }
 
@@ -113,28 +128,30 @@ typedef uint64_t timed(const struct build *);
 static uint64_t told(uint64_t sum, uint64_t x, uint64_t y) { return 31 * (31 * sum + x) + y; }
 static uint64_t opening(const struct build *b) {
     loes_opened e = b->open_(first, first_bytes);
-    return told(told(e.kind, e.width, e.count), e.bits, e.edges);
+    return told(told(e.refusal, e.width, e.count), e.bits, 0);
 }
 static uint64_t written(loes_answer a) {
-    if (a.kind != LOES_VALUE) exit(3);
+    if (a.refusal) exit(3);
     return a.value;
 }
 static uint64_t packing(const struct build *b) { return written(b->pack_(8 * key_bytes, batch, batch_bytes, out, ROOM)); }
 static uint64_t uniting(const struct build *b) { return written(b->union_(first, first_bytes, second, second_bytes, out, ROOM)); }
 static uint64_t subtracting(const struct build *b) { return written(b->difference_(first, first_bytes, second, second_bytes, out, ROOM)); }
 
+#define OPENED opened.width, opened.count, opened.bits, first, first_bytes
+
 /* A question put to bytes, and the same behind the check ASKED times. */
 #define QUESTION(name, ...) \
     static uint64_t name(const struct build *b) { \
         const size_t i = 0; \
         loes_answer a = b->name##_(first, first_bytes, __VA_ARGS__); \
-        return told(0, a.kind, a.value); \
+        return told(a.refusal, a.found, a.value); \
     } \
-    static uint64_t opened_##name(const struct build *b) { \
+    static uint64_t unchecked_##name(const struct build *b) { \
         uint64_t sum = 0; \
         for (size_t i = 0; i < ASKED; i++) { \
-            loes_answer a = b->opened_##name##_(opened, first, first_bytes, __VA_ARGS__); \
-            sum = told(sum, a.kind, a.value); \
+            loes_answer a = b->unchecked_##name##_(OPENED, __VA_ARGS__); \
+            sum = told(sum, a.found, a.value); \
         } \
         return sum; \
     }
@@ -146,33 +163,33 @@ QUESTION(rank, offsets[i])
 
 /* The first step, and every step behind the check, with the test of the cursor and without. */
 static uint64_t advance(const struct build *b) {
-    memset(path, 0, 8 * key_bytes * sizeof *path);
-    loes_step step = b->advance_(first, first_bytes, LOES_BEFORE, path, LOES_CURSOR_OFFSETS, out, key_bytes);
-    return told(step.kind, step.value, step.state);
+    memset(&cursor, 0, (1 + 8 * key_bytes) * sizeof(uint64_t));
+    loes_answer a = b->advance_(first, first_bytes, &cursor, out, key_bytes);
+    return told(a.refusal, a.value, cursor.state);
 }
 #define WALK(name) \
     static uint64_t name(const struct build *b) { \
-        loes_step step = {LOES_VALUE, 1, LOES_BEFORE}; \
+        step s = {{0, 1, 0}, LOES_BEFORE}; \
         uint64_t sum = 0; \
         memset(path, 0, sizeof path); \
-        while (step.kind == LOES_VALUE && step.value > 0) { \
-            step = b->name##_(opened, first, first_bytes, step.state, path, LOES_CURSOR_OFFSETS, out, key_bytes); \
-            sum = told(sum, step.kind, out[key_bytes - 1]); \
+        while (s.answer.found) { \
+            s = b->name##_(OPENED, s.state, path, LOES_CURSOR_OFFSETS, out, key_bytes); \
+            sum = told(sum, s.answer.found, out[key_bytes - 1]); \
         } \
         return sum; \
     }
-WALK(opened_advance)
-WALK(opened_next)
+WALK(unchecked_advance)
+WALK(unchecked_next)
 
-/* Every member, a buffer full of keys at a time, or key by key where a build has no walk. */
+/* Every member, a buffer full of keys at a time. */
 static uint64_t iteration(const struct build *b) {
     static uint8_t many[1024];
-    loes_step step = {LOES_VALUE, 1, LOES_BEFORE};
+    step s = {{0, 1, 0}, LOES_BEFORE};
     uint64_t sum = 0;
     memset(path, 0, sizeof path);
-    while (step.kind == LOES_VALUE && step.value > 0) {
-        step = (b->walk ? b->walk : b->opened_next_)(opened, first, first_bytes, step.state, path, LOES_CURSOR_OFFSETS, many, sizeof many);
-        for (size_t at = key_bytes; at <= step.value; at += key_bytes) sum = told(sum, step.kind, many[at - 1]);
+    while (s.answer.found) {
+        s = b->unchecked_walk_(OPENED, s.state, path, LOES_CURSOR_OFFSETS, many, sizeof many);
+        for (size_t at = key_bytes; at <= s.answer.value; at += key_bytes) sum = told(sum, s.answer.found, many[at - 1]);
     }
     return sum;
 }
@@ -223,9 +240,9 @@ static void questions(const char *name, size_t n) {
     opened = builds[0].open_(first, first_bytes);
     for (size_t i = 0; i < ASKED; i++) {
         for (size_t k = 0; k < key_bytes; k++) asked[i][k] = (uint8_t)next();
-        indices[i] = n ? next() % n : 0;
-        offsets[i] = n ? next() % opened.bits : 0;
-        if (n && i % 2 == 0) memcpy(asked[i], keys[indices[i]], key_bytes);
+        indices[i].index = n ? next() % n : 0;
+        offsets[i].offset = n ? next() % opened.bits : 0;
+        if (n && i % 2 == 0) memcpy(asked[i], keys[indices[i].index], key_bytes);
     }
     measure(name, "open", opening, 1);
     measure(name, "pack", packing, 1);
@@ -235,13 +252,13 @@ static void questions(const char *name, size_t n) {
     measure(name, "key_at", key_at, 1);
     measure(name, "rank", rank, 1);
     measure(name, "advance", advance, 1);
-    measure(name, "opened_contains", opened_contains, ASKED);
-    measure(name, "opened_index_of", opened_index_of, ASKED);
-    measure(name, "opened_lower_bound", opened_lower_bound, ASKED);
-    measure(name, "opened_key_at", opened_key_at, ASKED);
-    measure(name, "opened_rank", opened_rank, ASKED);
-    measure(name, "opened_advance", opened_advance, n + 1);
-    measure(name, "opened_next", opened_next, n + 1);
+    measure(name, "unchecked_contains", unchecked_contains, ASKED);
+    measure(name, "unchecked_index_of", unchecked_index_of, ASKED);
+    measure(name, "unchecked_lower_bound", unchecked_lower_bound, ASKED);
+    measure(name, "unchecked_key_at", unchecked_key_at, ASKED);
+    measure(name, "unchecked_rank", unchecked_rank, ASKED);
+    measure(name, "unchecked_advance", unchecked_advance, n + 1);
+    measure(name, "unchecked_next", unchecked_next, n + 1);
     measure(name, "iteration", iteration, n + 1);
 }
 
@@ -264,7 +281,6 @@ int main(int count, char **words) {
         if (!library) return 4;
 #define FIND(name) builds[build_count].name##_ = dlsym(library, "loes_" #name);
         FUNCTIONS(FIND)
-        builds[build_count].walk = dlsym(library, "loes_opened_walk");
     }
     printf("| keys | call | first, ns |");
     for (int k = 1; k < build_count; k++) printf(" %d, ns | ratio |", k + 1);

@@ -1,10 +1,10 @@
 //! What the C interface answers, as Rust values.
 
-use crate::ffi::{self, Answer};
+use crate::ffi::Answer;
 use crate::Refusal;
 
-pub(crate) fn refusal(number: u64) -> Refusal {
-    match Refusal::from_number(number) {
+pub(crate) fn refusal(number: u32) -> Refusal {
+    match Refusal::from_number(u64::from(number)) {
         Some(refusal) => refusal,
         None => panic!("the static library answered refusal {number}: it is not the one this crate was made for"),
     }
@@ -12,11 +12,9 @@ pub(crate) fn refusal(number: u64) -> Refusal {
 
 /// A value, or none.
 pub(crate) fn option(answer: Answer) -> Result<Option<u64>, Refusal> {
-    match answer.kind {
-        ffi::VALUE => Ok(Some(answer.value)),
-        ffi::ABSENT => Ok(None),
-        ffi::REFUSED => Err(refusal(answer.value)),
-        other => panic!("the static library answered kind {other}: it is not the one this crate was made for"),
+    match answer.refusal {
+        0 => Ok((answer.found != 0).then_some(answer.value)),
+        number => Err(refusal(number)),
     }
 }
 
@@ -25,7 +23,7 @@ pub(crate) fn value(answer: Answer) -> Result<u64, Refusal> {
     option(answer).map(|value| value.expect("this call has no answer without a value"))
 }
 
-/// A number of bytes.
+/// A number of bytes; 0 if nothing is written.
 pub(crate) fn length(answer: Answer) -> Result<usize, Refusal> {
-    value(answer).map(|length| length as usize)
+    option(answer).map(|length| length.unwrap_or(0) as usize)
 }

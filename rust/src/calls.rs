@@ -135,7 +135,7 @@ pub fn lower_bound(encoding: &[u8], key: &[u8]) -> Result<Option<MemberIndex>, R
 /// # Ok::<(), loes::Refusal>(())
 /// ```
 pub fn key_at(encoding: &[u8], index: MemberIndex, out: &mut [u8]) -> Result<usize, Refusal> {
-    answers::length(ffi::key_at(encoding, index.0, out))
+    answers::length(ffi::key_at(encoding, index, out))
 }
 
 /// The set bits of the edge sequence at offsets 0 to this one, this one included. [`Encoding::rank`] asks without checking the
@@ -149,7 +149,7 @@ pub fn key_at(encoding: &[u8], index: MemberIndex, out: &mut [u8]) -> Result<usi
 /// # Ok::<(), loes::Refusal>(())
 /// ```
 pub fn rank(encoding: &[u8], offset: EdgeOffset) -> Result<u64, Refusal> {
-    answers::value(ffi::rank(encoding, offset.0))
+    answers::value(ffi::rank(encoding, offset))
 }
 
 /// Moves a cursor on to the next member and writes that member to the front of the buffer. [`Encoding::advance`] does it without
@@ -166,6 +166,5 @@ pub fn rank(encoding: &[u8], offset: EdgeOffset) -> Result<u64, Refusal> {
 /// # Ok::<(), loes::Refusal>(())
 /// ```
 pub fn advance(encoding: &[u8], cursor: &mut Cursor, out: &mut [u8]) -> Result<usize, Refusal> {
-    let step = ffi::advance(encoding, cursor.state as u64, &mut cursor.offsets, out);
-    cursor.stepped(step)
+    answers::length(ffi::advance(encoding, &mut cursor.numbers, out))
 }

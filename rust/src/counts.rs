@@ -7,6 +7,7 @@
 /// assert_eq!(Encoding::open(&bytes)?.rank(EdgeOffset(9))?, 7);
 /// # Ok::<(), loes::Refusal>(())
 /// ```
+#[repr(C)]
 #[derive(Clone, Copy, Debug, Default, PartialEq, Eq, Hash, PartialOrd, Ord)]
 pub struct EdgeOffset(pub u64);
 
@@ -19,5 +20,6 @@ pub struct EdgeOffset(pub u64);
 /// assert_eq!(Encoding::open(&bytes)?.index_of(&[0x60])?, Some(MemberIndex(1)));
 /// # Ok::<(), loes::Refusal>(())
 /// ```
+#[repr(C)]
 #[derive(Clone, Copy, Debug, Default, PartialEq, Eq, Hash, PartialOrd, Ord)]
 pub struct MemberIndex(pub u64);

@@ -1,4 +1,4 @@
-use crate::{answers, ffi, Refusal};
+use crate::{ffi, EdgeOffset};
 
 /// Where a [`Cursor`] stands.
 ///
@@ -35,34 +35,33 @@ pub enum State {
 /// ```
 #[derive(Clone, Debug, PartialEq, Eq)]
 pub struct Cursor {
-    pub(crate) state: State,
-    pub(crate) offsets: [u64; ffi::OFFSETS],
+    pub(crate) numbers: ffi::Cursor,
 }
 
 impl Cursor {
     /// A cursor before the first member.
     ///
     /// ```
-    /// # use loes::{Cursor, State};
+    /// # use loes::{Cursor, EdgeOffset, State};
     /// let cursor = Cursor::new();
-    /// assert_eq!(cursor, Cursor::from_parts(State::Before, [0; 256]));
+    /// assert_eq!(cursor, Cursor::from_parts(State::Before, [EdgeOffset(0); 256]));
     /// ```
     pub const fn new() -> Cursor {
-        Cursor { state: State::Before, offsets: [0; ffi::OFFSETS] }
+        Cursor::from_parts(State::Before, [EdgeOffset(0); ffi::OFFSETS])
     }
 
     /// A cursor of a state and offsets, as [`state`](Cursor::state) and [`offsets`](Cursor::offsets) tell them. Anything may be
     /// given: a cursor that is not one of the encoding it is used with is refused there.
     ///
     /// ```
-    /// # use loes::{Cursor, Encoding, Refusal, State};
+    /// # use loes::{Cursor, EdgeOffset, Encoding, Refusal, State};
     /// let bytes = loes::pack_to_vec(3, &[0x00, 0x60])?;
-    /// let mut cursor = Cursor::from_parts(State::At, [1; 256]);
+    /// let mut cursor = Cursor::from_parts(State::At, [EdgeOffset(1); 256]);
     /// assert_eq!(Encoding::open(&bytes)?.advance(&mut cursor, &mut [0]), Err(Refusal::BadCursor));
     /// # Ok::<(), loes::Refusal>(())
     /// ```
-    pub const fn from_parts(state: State, offsets: [u64; ffi::OFFSETS]) -> Cursor {
-        Cursor { state, offsets }
+    pub const fn from_parts(state: State, offsets: [EdgeOffset; ffi::OFFSETS]) -> Cursor {
+        Cursor { numbers: ffi::Cursor { state: state as u64, offsets } }
     }
 
     /// Where it stands.
@@ -72,32 +71,26 @@ impl Cursor {
     /// assert_eq!(Cursor::new().state(), State::Before);
     /// ```
     pub const fn state(&self) -> State {
-        self.state
+        match self.numbers.state {
+            ffi::BEFORE => State::Before,
+            ffi::AT => State::At,
+            ffi::AFTER => State::After,
+            _ => panic!("the static library left a state that is none: it is not the one this crate was made for"),
+        }
     }
 
     /// Its edge offsets, one for each level; those that it doesn't use are 0.
     ///
     /// ```
-    /// # use loes::{Cursor, Encoding};
+    /// # use loes::{Cursor, EdgeOffset, Encoding};
     /// let bytes = loes::pack_to_vec(3, &[0x60])?;
     /// let mut cursor = Cursor::new();
     /// Encoding::open(&bytes)?.advance(&mut cursor, &mut [0])?;
-    /// assert_eq!(cursor.offsets()[..4], [0, 3, 5, 0]);
+    /// assert_eq!(cursor.offsets()[..4], [0, 3, 5, 0].map(EdgeOffset));
     /// # Ok::<(), loes::Refusal>(())
     /// ```
-    pub const fn offsets(&self) -> &[u64; ffi::OFFSETS] {
-        &self.offsets
-    }
-
-    /// Takes the state that a step has left, and tells how many bytes it wrote.
-    pub(crate) fn stepped(&mut self, step: ffi::Step) -> Result<usize, Refusal> {
-        self.state = match step.state {
-            ffi::BEFORE => State::Before,
-            ffi::AT => State::At,
-            ffi::AFTER => State::After,
-            other => panic!("the static library answered a cursor state {other}: it is not the one this crate was made for"),
-        };
-        answers::length(ffi::Answer { kind: step.kind, value: step.value })
+    pub const fn offsets(&self) -> &[EdgeOffset; ffi::OFFSETS] {
+        &self.numbers.offsets
     }
 }
 

@@ -108,7 +108,7 @@ impl<'a> Encoding<'a> {
     /// # Ok::<(), loes::Refusal>(())
     /// ```
     pub fn width(&self) -> u64 {
-        self.checked.opened().width
+        self.checked.numbers()[0]
     }
 
     /// The bytes that a key takes.
@@ -130,7 +130,7 @@ impl<'a> Encoding<'a> {
     /// # Ok::<(), loes::Refusal>(())
     /// ```
     pub fn len(&self) -> u64 {
-        self.checked.opened().count
+        self.checked.numbers()[1]
     }
 
     /// Whether it has no key.
@@ -152,7 +152,7 @@ impl<'a> Encoding<'a> {
     /// # Ok::<(), loes::Refusal>(())
     /// ```
     pub fn bits(&self) -> u64 {
-        self.checked.opened().bits
+        self.checked.numbers()[2]
     }
 
     /// Whether the key is a member.
@@ -212,7 +212,7 @@ impl<'a> Encoding<'a> {
     /// # Ok::<(), Refusal>(())
     /// ```
     pub fn key_at(&self, index: MemberIndex, out: &mut [u8]) -> Result<usize, Refusal> {
-        answers::length(self.checked.key_at(index.0, out))
+        answers::length(self.checked.key_at(index, out))
     }
 
     /// The set bits of the edge sequence at offsets 0 to this one, this one included.
@@ -226,7 +226,7 @@ impl<'a> Encoding<'a> {
     /// # Ok::<(), Refusal>(())
     /// ```
     pub fn rank(&self, offset: EdgeOffset) -> Result<u64, Refusal> {
-        answers::value(self.checked.rank(offset.0))
+        answers::value(self.checked.rank(offset))
     }
 
     /// Moves a cursor on to the next member, writes that member to the front of the buffer and tells its length; 0 if the cursor
@@ -245,8 +245,7 @@ impl<'a> Encoding<'a> {
     /// # Ok::<(), Refusal>(())
     /// ```
     pub fn advance(&self, cursor: &mut Cursor, out: &mut [u8]) -> Result<usize, Refusal> {
-        let step = self.checked.advance(cursor.state as u64, &mut cursor.offsets, out);
-        cursor.stepped(step)
+        answers::length(self.checked.advance(&mut cursor.numbers, out))
     }
 
     /// Its keys in rising order.

@@ -1,25 +1,19 @@
-//! The C interface of the static library (`include/loes.h`), with slices in place of pointers.
+//! The static library's functions, with slices in place of pointers: those of `include/loes.h`, and those behind the check, which
+//! stand in no header.
 //!
 //! The only file with `unsafe`. What makes it sound:
 //!
-//! - a slice's pointer is never null and its length is right; output slices are borrowed mutably, so they share no byte with
-//!   anything else that is lent;
-//! - the calls behind the check require what `loes_open` answered for the same bytes: a `Checked` is made by `open` only
+//! - a slice's pointer is never null and its length is right; output slices and cursors are borrowed mutably, so they share no
+//!   byte with anything else that is lent;
+//! - the functions behind the check require the numbers that `loes_open` told of the same bytes: a `Checked` is made by `open` only
 //!   and borrows those bytes, so they cannot change while it lives;
 //! - the steps that do not test their cursor require a right one: a `Walk` starts before the first member, and only its own
 //!   steps change its cursor, none of which is refused 15.
 
-use crate::Encoding;
+use crate::{EdgeOffset, Encoding, MemberIndex};
 
 #[cfg(not(target_arch = "x86_64"))]
 compile_error!("the static library is made for x86-64");
-
-/// The kinds of an answer.
-pub const VALUE: u64 = 0;
-/// Absent, or none.
-pub const ABSENT: u64 = 1;
-/// Refused.
-pub const REFUSED: u64 = 2;
 
 /// The states of a cursor.
 pub const BEFORE: u64 = 0;
@@ -31,32 +25,39 @@ pub const AFTER: u64 = 2;
 /// The offsets of a cursor, one for each level that there can be.
 pub const OFFSETS: usize = Encoding::MAX_WIDTH as usize;
 
-/// `kind` is one of the three; a refusal's number is the value.
+/// The refusal's number or 0, whether what was asked for is there, and the value, 0 if not.
 #[repr(C)]
 #[derive(Clone, Copy, Debug, PartialEq, Eq)]
 pub struct Answer {
-    pub kind: u64,
+    pub refusal: u32,
+    pub found: u32,
     pub value: u64,
 }
 
+/// The refusal's number or 0, and the numbers of an encoding.
 #[repr(C)]
 #[derive(Clone, Copy, Debug, PartialEq, Eq)]
 pub struct Opened {
-    pub kind: u64,
-    pub width: u64,
+    pub refusal: u32,
+    pub width: u32,
     pub count: u64,
     pub bits: u64,
-    pub edges: u64,
-    pub blocks: u64,
-    pub sub_blocks: u64,
 }
 
+/// A cursor in numbers.
 #[repr(C)]
-#[derive(Clone, Copy, Debug, PartialEq, Eq)]
-pub struct Step {
-    pub kind: u64,
-    pub value: u64,
+#[derive(Clone, Debug, PartialEq, Eq)]
+pub struct Cursor {
     pub state: u64,
+    pub offsets: [EdgeOffset; OFFSETS],
+}
+
+/// A step over lent offsets: its answer, and the state that it leaves.
+#[repr(C)]
+#[derive(Clone, Copy)]
+struct Step {
+    answer: Answer,
+    state: u64,
 }
 
 #[rustfmt::skip]
@@ -68,32 +69,39 @@ extern "C" {
     fn loes_contains(l: *const u8, n: usize, key: *const u8, k: usize) -> Answer;
     fn loes_index_of(l: *const u8, n: usize, key: *const u8, k: usize) -> Answer;
     fn loes_lower_bound(l: *const u8, n: usize, key: *const u8, k: usize) -> Answer;
-    fn loes_key_at(l: *const u8, n: usize, index: u64, out: *mut u8, m: usize) -> Answer;
-    fn loes_rank(l: *const u8, n: usize, offset: u64) -> Answer;
-    fn loes_advance(l: *const u8, n: usize, state: u64, offsets: *mut u64, count: usize, out: *mut u8, m: usize) -> Step;
-    fn loes_opened_contains(e: Opened, l: *const u8, n: usize, key: *const u8, k: usize) -> Answer;
-    fn loes_opened_index_of(e: Opened, l: *const u8, n: usize, key: *const u8, k: usize) -> Answer;
-    fn loes_opened_lower_bound(e: Opened, l: *const u8, n: usize, key: *const u8, k: usize) -> Answer;
-    fn loes_opened_key_at(e: Opened, l: *const u8, n: usize, index: u64, out: *mut u8, m: usize) -> Answer;
-    fn loes_opened_rank(e: Opened, l: *const u8, n: usize, offset: u64) -> Answer;
-    fn loes_opened_advance(e: Opened, l: *const u8, n: usize, state: u64, offsets: *mut u64, count: usize, out: *mut u8, m: usize) -> Step;
-    fn loes_opened_next(e: Opened, l: *const u8, n: usize, state: u64, offsets: *mut u64, count: usize, out: *mut u8, m: usize) -> Step;
-    fn loes_opened_walk(e: Opened, l: *const u8, n: usize, state: u64, offsets: *mut u64, count: usize, out: *mut u8, m: usize) -> Step;
+    fn loes_key_at(l: *const u8, n: usize, index: MemberIndex, out: *mut u8, m: usize) -> Answer;
+    fn loes_rank(l: *const u8, n: usize, offset: EdgeOffset) -> Answer;
+    fn loes_advance(l: *const u8, n: usize, cursor: *mut Cursor, out: *mut u8, m: usize) -> Answer;
+    // behind the check: width, members and edge bits as loes_open told them of these bytes
+    fn loes_unchecked_contains(width: u64, count: u64, bits: u64, l: *const u8, n: usize, key: *const u8, k: usize) -> Answer;
+    fn loes_unchecked_index_of(width: u64, count: u64, bits: u64, l: *const u8, n: usize, key: *const u8, k: usize) -> Answer;
+    fn loes_unchecked_lower_bound(width: u64, count: u64, bits: u64, l: *const u8, n: usize, key: *const u8, k: usize) -> Answer;
+    fn loes_unchecked_key_at(width: u64, count: u64, bits: u64, l: *const u8, n: usize, index: MemberIndex, out: *mut u8, m: usize) -> Answer;
+    fn loes_unchecked_rank(width: u64, count: u64, bits: u64, l: *const u8, n: usize, offset: EdgeOffset) -> Answer;
+    fn loes_unchecked_advance(width: u64, count: u64, bits: u64, l: *const u8, n: usize, state: u64, offsets: *mut EdgeOffset, count: usize, out: *mut u8, m: usize) -> Step;
+    // and with a right cursor
+    fn loes_unchecked_next(width: u64, count: u64, bits: u64, l: *const u8, n: usize, state: u64, offsets: *mut EdgeOffset, count: usize, out: *mut u8, m: usize) -> Step;
+    fn loes_unchecked_walk(width: u64, count: u64, bits: u64, l: *const u8, n: usize, state: u64, offsets: *mut EdgeOffset, count: usize, out: *mut u8, m: usize) -> Step;
 }
 
-/// Bytes that have been opened, with what was answered for them.
+/// Bytes that have been opened, and their numbers.
 #[derive(Clone, Copy)]
 pub struct Checked<'a> {
-    opened: Opened,
     bytes: &'a [u8],
+    width: u64,
+    count: u64,
+    bits: u64,
+}
+
+pub fn opened(bytes: &[u8]) -> Opened {
+    unsafe { loes_open(bytes.as_ptr(), bytes.len()) }
 }
 
 /// The checked bytes, or the refusal's number.
-pub fn open(bytes: &[u8]) -> Result<Checked<'_>, u64> {
-    let opened = unsafe { loes_open(bytes.as_ptr(), bytes.len()) };
-    match opened.kind {
-        VALUE => Ok(Checked { opened, bytes }),
-        _ => Err(opened.width),
+pub fn open(bytes: &[u8]) -> Result<Checked<'_>, u32> {
+    match opened(bytes) {
+        Opened { refusal: 0, width, count, bits } => Ok(Checked { bytes, width: u64::from(width), count, bits }),
+        Opened { refusal, .. } => Err(refusal),
     }
 }
 
@@ -121,98 +129,98 @@ pub fn lower_bound(l: &[u8], key: &[u8]) -> Answer {
     unsafe { loes_lower_bound(l.as_ptr(), l.len(), key.as_ptr(), key.len()) }
 }
 
-pub fn key_at(l: &[u8], index: u64, out: &mut [u8]) -> Answer {
+pub fn key_at(l: &[u8], index: MemberIndex, out: &mut [u8]) -> Answer {
     unsafe { loes_key_at(l.as_ptr(), l.len(), index, out.as_mut_ptr(), out.len()) }
 }
 
-pub fn rank(l: &[u8], offset: u64) -> Answer {
+pub fn rank(l: &[u8], offset: EdgeOffset) -> Answer {
     unsafe { loes_rank(l.as_ptr(), l.len(), offset) }
 }
 
-pub fn advance(l: &[u8], state: u64, offsets: &mut [u64], out: &mut [u8]) -> Step {
-    unsafe { loes_advance(l.as_ptr(), l.len(), state, offsets.as_mut_ptr(), offsets.len(), out.as_mut_ptr(), out.len()) }
+pub fn advance(l: &[u8], cursor: &mut Cursor, out: &mut [u8]) -> Answer {
+    unsafe { loes_advance(l.as_ptr(), l.len(), cursor, out.as_mut_ptr(), out.len()) }
 }
+
+/// A step behind the check, over lent offsets.
+type StepBehind = unsafe extern "C" fn(u64, u64, u64, *const u8, usize, u64, *mut EdgeOffset, usize, *mut u8, usize) -> Step;
 
 impl<'a> Checked<'a> {
     pub fn bytes(&self) -> &'a [u8] {
         self.bytes
     }
 
-    pub fn opened(&self) -> Opened {
-        self.opened
+    /// Width, members and edge bits.
+    pub fn numbers(&self) -> [u64; 3] {
+        [self.width, self.count, self.bits]
     }
 
     pub fn contains(&self, key: &[u8]) -> Answer {
-        unsafe { loes_opened_contains(self.opened, self.bytes.as_ptr(), self.bytes.len(), key.as_ptr(), key.len()) }
+        let Checked { bytes, width, count, bits } = *self;
+        unsafe { loes_unchecked_contains(width, count, bits, bytes.as_ptr(), bytes.len(), key.as_ptr(), key.len()) }
     }
 
     pub fn index_of(&self, key: &[u8]) -> Answer {
-        unsafe { loes_opened_index_of(self.opened, self.bytes.as_ptr(), self.bytes.len(), key.as_ptr(), key.len()) }
+        let Checked { bytes, width, count, bits } = *self;
+        unsafe { loes_unchecked_index_of(width, count, bits, bytes.as_ptr(), bytes.len(), key.as_ptr(), key.len()) }
     }
 
     pub fn lower_bound(&self, key: &[u8]) -> Answer {
-        unsafe { loes_opened_lower_bound(self.opened, self.bytes.as_ptr(), self.bytes.len(), key.as_ptr(), key.len()) }
+        let Checked { bytes, width, count, bits } = *self;
+        unsafe { loes_unchecked_lower_bound(width, count, bits, bytes.as_ptr(), bytes.len(), key.as_ptr(), key.len()) }
     }
 
-    pub fn key_at(&self, index: u64, out: &mut [u8]) -> Answer {
-        unsafe { loes_opened_key_at(self.opened, self.bytes.as_ptr(), self.bytes.len(), index, out.as_mut_ptr(), out.len()) }
+    pub fn key_at(&self, index: MemberIndex, out: &mut [u8]) -> Answer {
+        let Checked { bytes, width, count, bits } = *self;
+        unsafe { loes_unchecked_key_at(width, count, bits, bytes.as_ptr(), bytes.len(), index, out.as_mut_ptr(), out.len()) }
     }
 
-    pub fn rank(&self, offset: u64) -> Answer {
-        unsafe { loes_opened_rank(self.opened, self.bytes.as_ptr(), self.bytes.len(), offset) }
+    pub fn rank(&self, offset: EdgeOffset) -> Answer {
+        let Checked { bytes, width, count, bits } = *self;
+        unsafe { loes_unchecked_rank(width, count, bits, bytes.as_ptr(), bytes.len(), offset) }
     }
 
-    #[rustfmt::skip]
-    pub fn advance(&self, state: u64, offsets: &mut [u64], out: &mut [u8]) -> Step {
-        unsafe {
-            loes_opened_advance(
-                self.opened, self.bytes.as_ptr(), self.bytes.len(), state, offsets.as_mut_ptr(), offsets.len(), out.as_mut_ptr(), out.len(),
-            )
-        }
+    pub fn advance(&self, cursor: &mut Cursor, out: &mut [u8]) -> Answer {
+        // any cursor may be given to this step
+        unsafe { self.step(loes_unchecked_advance, cursor, out) }
     }
 
     pub fn walk(&self) -> Walk<'a> {
-        Walk { checked: *self, state: BEFORE, offsets: [0; OFFSETS] }
+        Walk { checked: *self, cursor: Cursor { state: BEFORE, offsets: [EdgeOffset(0); OFFSETS] } }
+    }
+
+    /// # Safety
+    ///
+    /// The cursor is one that the step takes.
+    #[rustfmt::skip]
+    unsafe fn step(&self, by: StepBehind, cursor: &mut Cursor, out: &mut [u8]) -> Answer {
+        let Checked { bytes, width, count, bits } = *self;
+        let step = by(
+            width, count, bits, bytes.as_ptr(), bytes.len(), cursor.state, cursor.offsets.as_mut_ptr(), OFFSETS, out.as_mut_ptr(), out.len(),
+        );
+        cursor.state = step.state;
+        step.answer
     }
 }
-
-/// One of the two steps that do not test their cursor.
-type OwnStep = unsafe extern "C" fn(Opened, *const u8, usize, u64, *mut u64, usize, *mut u8, usize) -> Step;
 
 /// A walk over checked bytes from before the first member, with a cursor of its own.
 #[derive(Clone)]
 pub struct Walk<'a> {
     checked: Checked<'a>,
-    state: u64,
-    offsets: [u64; OFFSETS],
+    cursor: Cursor,
 }
 
 impl Walk<'_> {
-    pub fn state(&self) -> u64 {
-        self.state
-    }
-
-    pub fn offsets(&self) -> &[u64; OFFSETS] {
-        &self.offsets
+    pub fn cursor(&self) -> &Cursor {
+        &self.cursor
     }
 
     pub fn next(&mut self, out: &mut [u8]) -> Answer {
-        self.step(loes_opened_next, out)
+        // the cursor is right: only this function and the next one change it
+        unsafe { self.checked.step(loes_unchecked_next, &mut self.cursor, out) }
     }
 
     /// A step, and as many more as the buffer has room for.
     pub fn fill(&mut self, out: &mut [u8]) -> Answer {
-        self.step(loes_opened_walk, out)
-    }
-
-    /// The step is one of the two above, and the cursor right: only this function changes it.
-    #[rustfmt::skip]
-    fn step(&mut self, by: OwnStep, out: &mut [u8]) -> Answer {
-        let Checked { opened, bytes } = self.checked;
-        let step = unsafe {
-            by(opened, bytes.as_ptr(), bytes.len(), self.state, self.offsets.as_mut_ptr(), self.offsets.len(), out.as_mut_ptr(), out.len())
-        };
-        self.state = step.state;
-        Answer { kind: step.kind, value: step.value }
+        unsafe { self.checked.step(loes_unchecked_walk, &mut self.cursor, out) }
     }
 }

@@ -10,12 +10,25 @@ use plain::{key_len, Answer, Set};
 struct Library;
 
 fn answer(answer: ffi::Answer) -> Answer {
-    match answer.kind {
-        0 => Ok(Some(answer.value)),
-        1 => Ok(None),
-        2 => Err(answer.value),
-        other => panic!("kind {other}"),
+    match answer {
+        ffi::Answer { refusal: 0, found: 1, value } => Ok(Some(value)),
+        ffi::Answer { refusal: 0, found: 0, value: 0 } => Ok(None),
+        ffi::Answer { refusal: 1.., found: 0, value: 0 } => Err(u64::from(answer.refusal)),
+        other => panic!("{other:?}"),
     }
+}
+
+/// The bytes that a step wrote.
+fn written(step: ffi::Answer) -> Answer {
+    answer(step).map(|bytes| bytes.or(Some(0)))
+}
+
+/// A step from a cursor in parts, and the state that it leaves.
+fn stepped(state: u64, offsets: &mut [u64], step: impl FnOnce(&mut ffi::Cursor) -> ffi::Answer) -> (Answer, u64) {
+    let mut cursor = ffi::Cursor { state, offsets: std::array::from_fn(|level| EdgeOffset(offsets[level])) };
+    let answer = written(step(&mut cursor));
+    offsets.copy_from_slice(&cursor.offsets.map(|offset| offset.0));
+    (answer, cursor.state)
 }
 
 fn number<T>(result: Result<T, Refusal>) -> Result<T, u64> {
@@ -28,10 +41,6 @@ fn length(result: Result<usize, Refusal>) -> Answer {
 
 fn index(result: Result<Option<MemberIndex>, Refusal>) -> Answer {
     number(result).map(|index| index.map(|index| index.0))
-}
-
-fn stepped(step: ffi::Step) -> (Answer, u64) {
-    (answer(ffi::Answer { kind: step.kind, value: step.value }), step.state)
 }
 
 /// Encodings are built, opened and asked through the Rust interface; cursors in numbers, so that any can be given.
@@ -53,7 +62,7 @@ impl Subject for Library {
 
     fn open(l: &[u8]) -> Result<(Self::Opened<'_>, [u64; 3]), u64> {
         let encoding = number(Encoding::open(l))?;
-        Ok(((ffi::open(l)?, encoding), [encoding.width(), encoding.len(), encoding.bits()]))
+        Ok(((ffi::open(l).map_err(u64::from)?, encoding), [encoding.width(), encoding.len(), encoding.bits()]))
     }
 
     fn ask(l: &[u8], question: &Question, out: &mut [u8]) -> Answer {
@@ -77,11 +86,11 @@ impl Subject for Library {
     }
 
     fn advance(l: &[u8], state: u64, offsets: &mut [u64], out: &mut [u8]) -> (Answer, u64) {
-        stepped(ffi::advance(l, state, offsets, out))
+        stepped(state, offsets, |cursor| ffi::advance(l, cursor, out))
     }
 
     fn advance_opened((checked, _): &Self::Opened<'_>, state: u64, offsets: &mut [u64], out: &mut [u8]) -> (Answer, u64) {
-        stepped(checked.advance(state, offsets, out))
+        stepped(state, offsets, |cursor| checked.advance(cursor, out))
     }
 
     fn walk<'a>((checked, _): &Self::Opened<'a>) -> ffi::Walk<'a> {
@@ -89,33 +98,42 @@ impl Subject for Library {
     }
 
     fn next(walk: &mut ffi::Walk<'_>, out: &mut [u8]) -> Answer {
-        answer(walk.next(out))
+        written(walk.next(out))
     }
 
     fn fill(walk: &mut ffi::Walk<'_>, out: &mut [u8]) -> Answer {
-        answer(walk.fill(out))
+        written(walk.fill(out))
     }
 
     fn place(walk: &ffi::Walk<'_>) -> (u64, Vec<u64>) {
-        (walk.state(), walk.offsets().to_vec())
+        (walk.cursor().state, walk.cursor().offsets.map(|offset| offset.0).to_vec())
     }
 }
 
 differential_tests!(Library);
 
-/// What is answered for a member is 1 on the C side, as its header says.
+/// The C answers field by field, as the header says: a refused one has no value, an absent key is not the first one.
 #[test]
 fn answers_in_numbers() {
-    let value = |value| ffi::Answer { kind: 0, value };
-    let none = |answer: ffi::Answer| answer.kind == 1;
-    let refused = |number| ffi::Answer { kind: 2, value: number };
+    let value = |value| ffi::Answer { refusal: 0, found: 1, value };
+    let none = ffi::Answer { refusal: 0, found: 0, value: 0 };
+    let refused = |refusal| ffi::Answer { refusal, found: 0, value: 0 };
     assert_eq!(ffi::contains(&P2, &[0x60]), value(1));
-    assert!(none(ffi::contains(&P2, &[0xA0])) && none(ffi::index_of(&P2, &[0xA0])) && none(ffi::lower_bound(&P2, &[0xE0])));
-    assert_eq!(ffi::lower_bound(&P2, &[0xA0]), value(2));
-    assert_eq!(ffi::contains(&P2, &[0x61]), refused(8));
-    let opened = ffi::open(&P2).unwrap().opened();
-    assert_eq!((opened.edges, opened.blocks, opened.sub_blocks), (30, 35, 46));
-    assert_eq!(ffi::open(&P2[..47]).err(), Some(1));
+    assert_eq!([ffi::contains(&P2, &[0xA0]), ffi::index_of(&P2, &[0xA0]), ffi::lower_bound(&P2, &[0xE0])], [none; 3]);
+    assert_eq!((ffi::index_of(&P2, &[0x00]), ffi::lower_bound(&P2, &[0xA0])), (value(0), value(2)));
+    assert_eq!((ffi::contains(&P2, &[0x61]), ffi::index_of(&P2, &[0x61])), (refused(8), refused(8)));
+    assert_eq!(ffi::rank(&P2, EdgeOffset(12)), refused(9));
+    assert_eq!(ffi::pack(0, &[], &mut []), refused(4));
+    assert_eq!(ffi::opened(&P2), ffi::Opened { refusal: 0, width: 3, count: 3, bits: 12 });
+    assert_eq!(ffi::opened(&P2[..47]), ffi::Opened { refusal: 1, width: 0, count: 0, bits: 0 });
+    let before = ffi::Cursor { state: 0, offsets: [EdgeOffset(0); 256] };
+    let mut cursor = before.clone();
+    assert_eq!(ffi::advance(&P2, &mut cursor, &mut []), refused(14));
+    assert_eq!(cursor, before);
+    for _ in 0..3 {
+        assert_eq!(ffi::advance(&P2, &mut cursor, &mut [0]), value(1));
+    }
+    assert_eq!(ffi::advance(&P2, &mut cursor, &mut [0]), none);
 }
 
 /// The iterator gives the keys, knows how many are left, and stays at its end.
@@ -178,14 +196,14 @@ fn cursors() {
             assert_eq!(&key, member);
             assert_eq!(loes::advance(&bytes, &mut two, &mut key), Ok(member.len()));
             assert_eq!((&key, &one), (member, &two));
-            assert_eq!((one.state(), &one.offsets()[..width]), (State::At, &path[..]));
+            assert_eq!((one.state(), one.offsets()[..width].to_vec()), (State::At, path.into_iter().map(EdgeOffset).collect()));
             assert_eq!(Cursor::from_parts(one.state(), *one.offsets()), one);
         }
         assert_eq!(encoding.advance(&mut one, &mut []), Ok(0));
-        assert_eq!(one, Cursor::from_parts(State::After, [0; 256]));
+        assert_eq!(one, Cursor::from_parts(State::After, [EdgeOffset(0); 256]));
         assert_eq!(encoding.advance(&mut one, &mut []), Ok(0));
-        let mut wrong = Cursor::from_parts(State::After, [1; 256]);
+        let mut wrong = Cursor::from_parts(State::After, [EdgeOffset(1); 256]);
         assert_eq!(loes::advance(&bytes, &mut wrong, &mut key), Err(Refusal::BadCursor));
-        assert_eq!(wrong, Cursor::from_parts(State::After, [1; 256]));
+        assert_eq!(wrong, Cursor::from_parts(State::After, [EdgeOffset(1); 256]));
     });
 }

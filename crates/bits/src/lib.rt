@@ -14,10 +14,12 @@ pub mod tables;
 
 // Three separate counts: a call that wants one does not take another.
 // An offset in the edge sequence.
+#[repr(C)]
 pub struct EdgeOffset(pub usize);
 // The number of a record in the edge sequence.
 pub struct RecordIndex(pub usize);
 // A key's index among the members in order (document 01: lot).
+#[repr(C)]
 pub struct MemberIndex(pub usize);
 
 // Bit o of bytes, offset 0 in the most significant bit of the first byte.

@@ -1,18 +1,23 @@
 -- From the calls' answers to their codes.
-use mathlib.Core.Path.{_≡_, sym, ap, _∙_}
-use Prim.Native.Nat.{ℕ}
-use mathlib.Core.List.{List}
+use mathlib.Core.Path.{_≡_, refl, sym, ap, _∙_}
+use Prim.Native.Nat.{ℕ, _≤_}
+use mathlib.Core.List.{List, []}
+use mathlib.Core.Option.{Option, none, some}
 use native.Mathlib.Omega.{arith}
+use Rattle.loes.specs.Limits.{maxWidth, maxEdges}
 use Rattle.loes.specs.Bytes.{Bytes}
-use Rattle.loes.specs.Read.{rejected, read}
-use Rattle.loes.specs.Model.{Outcome}
-use Rattle.loes.specs.Calls.{openCall}
+use Rattle.loes.specs.Entry.{Entry, count, edgeCount, Valid}
+use Rattle.loes.specs.Refusals.{firstOf}
+use Rattle.loes.specs.Read.{rejected, opened, readTests, readingOf, read, entryIn}
+use Rattle.loes.specs.Model.{Outcome, tells, refusal, refusedOr, tested, answers, opens}
+use Rattle.loes.specs.Calls.{afterReading, reading, openCall}
+use Rattle.loes.proofs.Reading.{reads-exactly}
 use Rattle.encoding.specs.declared.Encoding.{Encoding}
-use Rattle.encoding.specs.Opened.{Opens}
+use Rattle.encoding.specs.Opened.{Opens, Placed}
 use Rattle.encoding.proofs.Answers.{open-refused, open-told}
 use Rattle.capi.specs.declared.Answer.{Answer}
 use Rattle.capi.specs.declared.Opened.{Opened}
-use Rattle.capi.specs.Coded.{valueKind, codeOf, gives, coded, openedOf, encodingOf, noOpening, openingOf}
+use Rattle.capi.specs.Coded.{codeOf, gives, coded, opening, noOpening, openingOf, Told}
 
 pub told : {r : Answer} (o : Outcome) → r ≡ codeOf (o .answer) → gives r (o .buffers) ≡ coded o
 unfolding coded
@@ -26,17 +31,45 @@ pub onward : {r : Answer} {bufs : List Bytes} {o o' : Outcome} → o ≡ o' → 
 onward q p = p ∙ ap coded q
 
 -- ---- Opening
-abbrev pub Opening : Bytes → Opened → Type 0
-Opening l r = (r ≡ openingOf (openCall l .answer)) × (r .kind ≡ valueKind → Opens l (encodingOf r))
+pub open-no : (l : Bytes) (k : ℕ) (r : Opened) → read l ≡ rejected k → r ≡ noOpening k → r ≡ openingOf (openCall l .answer)
+open-no l k r h q = rw (← open-refused l k h) q
 
-pub open-no : (l : Bytes) (k : ℕ) (r : Opened) → read l ≡ rejected k → r ≡ noOpening k → Opening l r
-open-no l k r h q = (
-  rw (← open-refused l k h) q,
-  λ z. let y : r .kind ≡ 2 = ap (λ (x : Opened). x .kind) q in absurd (let x : ⊥ = omega arith in x),
-)
+pub open-yes : (l : Bytes) (e : Encoding) (r : Opened) → Opens l e → r ≡ opening (e .width) (e .count) (e .bits) → r ≡ openingOf (openCall l .answer)
+open-yes l e r o q = rw (← open-told l e o) q
 
-pub open-yes : (l : Bytes) (e : Encoding) (r : Opened) → Opens l e → r ≡ openedOf e → Opening l r
-open-yes l e r o q = (
-  rw (← open-told l e o) (q ∙ rw (o .edges, o .blocks, o .sub-blocks, o .width, o .bits)),
-  λ z. rw q o,
-)
+-- the numbers that opening tells are the entry's
+pub record Numbers (l : Bytes) (m n b : ℕ) : Type 0 where
+  pub reads : read l ≡ opened (entryIn l)
+  pub width : entryIn l .width ≡ m
+  pub count : count (entryIn l) ≡ n
+  pub bits : edgeCount (entryIn l) ≡ b
+
+numbers-of : (l : Bytes) (m n b : ℕ) (x : Option ℕ) → firstOf (readTests l) ≡ x
+    → afterReading (readingOf x (entryIn l)) [] (λ (e : Entry). opens e .outcome) .answer ≡ tells m n b → Numbers l m n b
+unfolding afterReading readingOf opens answers tested refusedOr firstOf refusal read
+numbers-of l m n b none h q = record { reads = rw h; width = cc; count = cc; bits = cc }
+numbers-of l m n b (some k) h q = let z : _≡_ {A = ℕ} 0 1 = cc in absurd (let y : ⊥ = omega arith in y)
+
+module _ (l : Bytes) (m n b : ℕ) (told : Told m n b l) where
+  pub told-numbers : Numbers l m n b
+  unfolding openCall reading read
+  told-numbers = numbers-of l m n b (firstOf (readTests l)) refl told
+
+  told-valid : Valid (entryIn l)
+  told-valid = reads-exactly l (entryIn l) .0 (told-numbers .reads) .0
+
+  pub told-room : (m ≤ maxWidth) × (b ≤ maxEdges)
+  told-room = (omega (arith, told-valid .narrow, told-numbers .width), omega (arith, told-valid .few, told-numbers .bits))
+
+  pub told-opens : (e : Encoding) → Placed m n b e → Opens l e
+  told-opens e p =
+      let k = told-numbers in
+      record {
+        reads = k .reads;
+        width = p .width ∙ sym (k .width);
+        count = p .count ∙ sym (k .count);
+        bits = p .bits ∙ sym (k .bits);
+        edges = rw (k .width) (p .edges);
+        blocks = cc (p .blocks, k .width, k .bits);
+        sub-blocks = cc (p .sub-blocks, k .width, k .bits);
+      }

@@ -1,4 +1,4 @@
--- A cursor and its step as C has them: a state's number and a list of offsets.
+-- A cursor and its step as C has them: a state's number and the offsets.
 use Prim.Native.Nat.{ℕ}
 use mathlib.Core.Bool.{Bool, cond}
 use mathlib.Core.List.{List}
@@ -7,56 +7,58 @@ use Rattle.loes.specs.Bytes.{Bytes}
 use Rattle.loes.specs.Entry.{Entry}
 use Rattle.loes.specs.Refusals.{badCursor}
 use Rattle.loes.specs.Read.{Reading, rejected, opened, read}
-use Rattle.loes.specs.Model.{Answer, refused}
-use Rattle.loes.specs.Cursor.{State, before, at, after, Cursor, Advanced, advance}
+use Rattle.loes.specs.Cursor as model
+use Rattle.cursor.specs.Steps.{numbers}
 use Rattle.cursor.specs.Filling.{advances}
-use Rattle.capi.specs.declared.Step.{Step}
-use Rattle.capi.specs.Coded.{codeOf}
+use Rattle.capi.specs.declared.Answer.{Answer}
+use Rattle.capi.specs.declared.Moved.{Moved}
+use Rattle.capi.specs.Coded.{refuses, codeOf}
 
--- a step's answer, the offsets and the output buffer at exit
+-- a step's answer, and the cursor's state, its offsets and the output buffer at exit
 pub record Walked : Type 0 where
-  pub step : Step
+  pub answer : Answer
+  pub state : ℕ
   pub offsets : List ℕ
   pub buffer : Bytes
 
-abbrev pub walks : Step → List ℕ → Bytes → Walked
-walks r os out = record { step = r; offsets = os; buffer = out }
+abbrev pub walks : Answer → ℕ → List ℕ → Bytes → Walked
+walks a s os out = record { answer = a; state = s; offsets = os; buffer = out }
 
-abbrev pub stateCode : State → ℕ
-stateCode before = 0
-stateCode at = 1
-stateCode after = 2
+-- after a step by value
+abbrev pub moves : Moved → Bytes → Walked
+moves r out = walks (r .answer) (r .cursor .state) (numbers (r .cursor .offsets)) out
+
+abbrev pub stateCode : model.State → ℕ
+stateCode model.before = 0
+stateCode model.at = 1
+stateCode model.after = 2
 
 -- the state of a number below 3
-abbrev pub stateIn : ℕ → State
-stateIn s = cond (eqb s 0) before (cond (eqb s 1) at after)
+abbrev pub stateIn : ℕ → model.State
+stateIn s = cond (eqb s 0) model.before (cond (eqb s 1) model.at model.after)
 
-abbrev pub cursorIn : ℕ → List ℕ → Cursor
+abbrev pub cursorIn : ℕ → List ℕ → model.Cursor
 cursorIn s os = record { state = stateIn s; offsets = os }
 
 -- a number of a state
 unfoldable pub isState : ℕ → Bool
 isState s = ltb s 3
 
--- an answer, and the number of the state after it
-abbrev pub stepCode : Answer → ℕ → Step
-stepCode a s = record { kind = codeOf a .kind; value = codeOf a .value; state = s }
-
-abbrev pub walkedBy : Advanced → Walked
-walkedBy a = walks (stepCode (a .answer) (stateCode (a .cursor .state))) (a .cursor .offsets) (a .buffer)
+abbrev pub walkedBy : model.Advanced → Walked
+walkedBy a = walks (codeOf (a .answer)) (stateCode (a .cursor .state)) (a .cursor .offsets) (a .buffer)
 
 -- refused: state, offsets and buffer keep their values
 abbrev pub keeps : ℕ → ℕ → List ℕ → Bytes → Walked
-keeps k s os out = walks (stepCode (refused k) s) os out
+keeps k s os out = walks (refuses k) s os out
 
 -- the encoding's refusals, then 15 for what is no state, then what the model does with an entry, a cursor and a buffer
-unfoldable pub doneAfter : (Entry → Cursor → Bytes → Advanced) → Reading → ℕ → List ℕ → Bytes → Walked
+unfoldable pub doneAfter : (Entry → model.Cursor → Bytes → model.Advanced) → Reading → ℕ → List ℕ → Bytes → Walked
 doneAfter does (rejected k) s os out = keeps k s os out
 doneAfter does (opened e) s os out = cond (isState s) (walkedBy (does e (cursorIn s os) out)) (keeps badCursor s os out)
 
 -- the model's step
 abbrev pub stepAfter : Reading → ℕ → List ℕ → Bytes → Walked
-stepAfter = doneAfter advance
+stepAfter = doneAfter model.advance
 
 abbrev pub stepCall : Bytes → ℕ → List ℕ → Bytes → Walked
 stepCall l = stepAfter (read l)

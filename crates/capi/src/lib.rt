@@ -1,8 +1,9 @@
 // The C interface: numbers and byte strings in, small structs out. The target's uint64_t and size_t are usize.
-ghost use Prim.Native.Nat.{_≤_};
+ghost use Prim.Native.Nat.{ℕ, _≤_};
 ghost use mathlib.Core.Path.{_≡_};
 ghost use mathlib.Core.Bool.{true};
-ghost use mathlib.Core.List.{[], _∷_};
+ghost use mathlib.Core.List.{List, [], _∷_};
+ghost use Rattle.loes.specs.Limits.{maxWidth};
 ghost use Rattle.loes.specs.Bytes.{Bytes};
 ghost use Rattle.loes.specs.Read.{entryIn, opened};
 ghost use Rattle.loes.specs.Cursor.{isCursorOf};
@@ -13,12 +14,14 @@ ghost use Rattle.encoding.specs.Opened.{Opens};
 ghost use Rattle.encoding.specs.Answers.{rankedOutcome};
 ghost use Rattle.query.specs.Answers as query;
 ghost use Rattle.cursor.specs.Steps as cursor;
+ghost use Rattle.cursor.specs.Steps.{numbers};
 ghost use Rattle.build.specs.Writing as build;
-ghost use Rattle.capi.specs.Coded.{valueKind, absentKind, says, codeOf, gives, coded, openedOf, noOpening, openingOf, encodingOf};
-ghost use Rattle.capi.specs.Steps.{walks, stateCode, stateIn, cursorIn, isState, stepCode, stepAfter, stepCall, walkCall};
+ghost use Rattle.capi.specs.Coded.{refuses, says, nothing, codeOf, gives, coded, opening, noOpening, openingOf, Told};
+ghost use Rattle.capi.specs.Steps.{walks, moves, stateCode, stateIn, cursorIn, isState, walkedBy, stepAfter, stepCall, walkCall};
 use bits::EdgeOffset;
 use bits::MemberIndex;
 use cursor::State;
+use cursor::Stepped;
 use cursor::Walked;
 use encoding::Checked;
 use encoding::Encoding;
@@ -28,12 +31,13 @@ use query::Bound;
 use query::Lookup;
 use query::Membership;
 
-// An answer's kinds.
-const VALUE: usize = 0;
+// Whether what was asked for is there.
+const FOUND: u32 = 1;
 
-const ABSENT: usize = 1;
+const NOT_FOUND: u32 = 0;
 
-const REFUSED: usize = 2;
+// The refusal of a call that is not refused.
+const NOT_REFUSED: u32 = 0;
 
 // The value of a key that is present.
 const PRESENT: usize = 1;
@@ -48,56 +52,79 @@ const AFTER: usize = 2;
 // loes_answer
 #[repr(C)]
 pub struct Answer {
-    pub kind: usize,
+    pub refusal: u32,
+    pub found: u32,
     pub value: usize,
 }
 
 // loes_opened
 #[repr(C)]
 pub struct Opened {
-    pub kind: usize,
-    pub width: usize,
+    pub refusal: u32,
+    pub width: u32,
     pub count: usize,
     pub bits: usize,
-    pub edges: usize,
-    pub blocks: usize,
-    pub sub_blocks: usize,
 }
 
-// loes_step
+// loes_cursor
+#[repr(C)]
+pub struct Cursor {
+    pub state: usize,
+    pub offsets: [EdgeOffset; Encoding::MAX_WIDTH],
+}
+
+// A step by value: the cursor that it leaves, and its answer.
+pub struct Moved {
+    pub cursor: Cursor,
+    pub answer: Answer,
+}
+
+// A step over lent offsets: its answer, and the state that it leaves.
 #[repr(C)]
 pub struct Step {
-    pub kind: usize,
-    pub value: usize,
+    pub answer: Answer,
     pub state: usize,
 }
 
 // ---- Answers coded
 fn refused(k: u8) -> Answer
-    ensures { λ r. ⌜ r ≡ codeOf (model.refused k) ⌝ }
+    ensures { λ r. ⌜ r ≡ refuses k ⌝ }
 {
     Answer {
-        kind: REFUSED,
-        value: k as usize,
+        refusal: k as u32,
+        found: NOT_FOUND,
+        value: 0,
     }
 }
 
 fn value(n: usize) -> Answer
-    ensures { λ r. ⌜ r ≡ says valueKind n ⌝ }
+    ensures { λ r. ⌜ r ≡ says n ⌝ }
 {
     Answer {
-        kind: VALUE,
+        refusal: NOT_REFUSED,
+        found: FOUND,
         value: n,
     }
 }
 
 fn absent() -> Answer
-    ensures { λ r. ⌜ r ≡ says absentKind 0 ⌝ }
+    ensures { λ r. ⌜ r ≡ nothing ⌝ }
 {
     Answer {
-        kind: ABSENT,
+        refusal: NOT_REFUSED,
+        found: NOT_FOUND,
         value: 0,
     }
+}
+
+// The bytes of a key, if there is one.
+fn key_bytes(n: usize) -> Answer
+    ensures { λ r. ⌜ r ≡ codeOf (model.wroteKey n) ⌝ }
+{
+    if n == 0 {
+        return absent();
+    }
+    value(n)
 }
 
 fn membership(a: Membership) -> Answer
@@ -144,7 +171,7 @@ fn key_written(a: query::Written) -> Answer
 {
     match a {
         query::Written::Refused(k) => refused(k),
-        query::Written::Bytes(n) => value(n),
+        query::Written::Bytes(n) => key_bytes(n),
     }
 }
 
@@ -158,17 +185,15 @@ fn written(a: build::Written) -> Answer
 }
 
 // ---- Opening
-fn opening(e: Encoding) -> Opened
-    ensures { λ r. ⌜ r ≡ openedOf e ⌝ }
+fn numbers_of(e: Encoding) -> Opened
+    requires { ⌜ e .width ≤ maxWidth ⌝ }
+    ensures { λ r. ⌜ r ≡ opening (e .width) (e .count) (e .bits) ⌝ }
 {
     Opened {
-        kind: VALUE,
-        width: e.width,
+        refusal: NOT_REFUSED,
+        width: e.width as u32,
         count: e.count,
         bits: e.bits,
-        edges: e.edges,
-        blocks: e.blocks,
-        sub_blocks: e.sub_blocks,
     }
 }
 
@@ -176,38 +201,22 @@ fn no_opening(k: u8) -> Opened
     ensures { λ r. ⌜ r ≡ noOpening k ⌝ }
 {
     Opened {
-        kind: REFUSED,
-        width: k as usize,
+        refusal: k as u32,
+        width: 0,
         count: 0,
         bits: 0,
-        edges: 0,
-        blocks: 0,
-        sub_blocks: 0,
     }
 }
 
-fn encoding_of(e: Opened) -> Encoding
-    ensures { λ r. ⌜ r ≡ encodingOf e ⌝ }
-{
-    Encoding {
-        width: e.width,
-        count: e.count,
-        bits: e.bits,
-        edges: e.edges,
-        blocks: e.blocks,
-        sub_blocks: e.sub_blocks,
-    }
-}
-
-// Checks an encoding whole and tells its numbers; what it answers opens the calls behind the check.
+// Checks an encoding whole and tells its numbers.
 #[no_mangle]
 pub extern "C" fn loes_open(l: &[u8]) -> Opened
-    ensures { λ r. ⌜ (r ≡ openingOf (openCall (now (l .entry)) .answer)) × (r .kind ≡ valueKind → Opens (now (l .entry)) (encodingOf r)) ⌝ }
+    ensures { λ r. ⌜ r ≡ openingOf (openCall (now (l .entry)) .answer) ⌝ }
 {
     let t = bits::tallies();
     match encoding::check(l, &t) {
         Checked::Refused(k) => no_opening(k),
-        Checked::Opened(e) => opening(e),
+        Checked::Opened(e) => numbers_of(e),
     }
 }
 
@@ -263,65 +272,18 @@ pub extern "C" fn loes_lower_bound(l: &[u8], key: &[u8]) -> Answer
 
 // Writes the member at an index to the front of a buffer.
 #[no_mangle]
-pub extern "C" fn loes_key_at(l: &[u8], index: usize, out: &mut [u8]) -> Answer
-    ensures { λ r. ⌜ gives r (now (out .exit) ∷ []) ≡ coded (keyAtCall (now (l .entry)) index (now (out .entry))) ⌝ }
+pub extern "C" fn loes_key_at(l: &[u8], index: MemberIndex, out: &mut [u8]) -> Answer
+    ensures { λ r. ⌜ gives r (now (out .exit) ∷ []) ≡ coded (keyAtCall (now (l .entry)) (index .0) (now (out .entry))) ⌝ }
 {
-    key_written(query::key_at(l, MemberIndex(index), out))
+    key_written(query::key_at(l, index, out))
 }
 
 // The set edge bits up to an offset, itself included.
 #[no_mangle]
-pub extern "C" fn loes_rank(l: &[u8], offset: usize) -> Answer
-    ensures { λ r. ⌜ gives r [] ≡ coded (rankCall (now (l .entry)) offset) ⌝ }
+pub extern "C" fn loes_rank(l: &[u8], offset: EdgeOffset) -> Answer
+    ensures { λ r. ⌜ gives r [] ≡ coded (rankCall (now (l .entry)) (offset .0)) ⌝ }
 {
-    ranked(encoding::rank(l, EdgeOffset(offset)))
-}
-
-// ---- Questions behind the check
-#[no_mangle]
-pub extern "C" fn loes_opened_contains(e: Opened, l: &[u8], key: &[u8]) -> Answer
-    requires { ⌜ Opens (now l) (encodingOf e) ⌝ }
-    ensures { λ r. ⌜ gives r [] ≡ coded (containsCall (now (l .entry)) (now (key .entry))) ⌝ }
-{
-    let t = bits::tallies();
-    membership(query::contains_in(l, &t, encoding_of(e), key))
-}
-
-#[no_mangle]
-pub extern "C" fn loes_opened_index_of(e: Opened, l: &[u8], key: &[u8]) -> Answer
-    requires { ⌜ Opens (now l) (encodingOf e) ⌝ }
-    ensures { λ r. ⌜ gives r [] ≡ coded (indexOfCall (now (l .entry)) (now (key .entry))) ⌝ }
-{
-    let t = bits::tallies();
-    lookup(query::index_of_in(l, &t, encoding_of(e), key))
-}
-
-#[no_mangle]
-pub extern "C" fn loes_opened_lower_bound(e: Opened, l: &[u8], key: &[u8]) -> Answer
-    requires { ⌜ Opens (now l) (encodingOf e) ⌝ }
-    ensures { λ r. ⌜ gives r [] ≡ coded (lowerBoundCall (now (l .entry)) (now (key .entry))) ⌝ }
-{
-    let t = bits::tallies();
-    bound(query::lower_bound_in(l, &t, encoding_of(e), key))
-}
-
-#[no_mangle]
-pub extern "C" fn loes_opened_key_at(e: Opened, l: &[u8], index: usize, out: &mut [u8]) -> Answer
-    requires { ⌜ Opens (now l) (encodingOf e) ⌝ }
-    ensures { λ r. ⌜ gives r (now (out .exit) ∷ []) ≡ coded (keyAtCall (now (l .entry)) index (now (out .entry))) ⌝ }
-{
-    let t = bits::tallies();
-    let places = bits::places();
-    key_written(query::key_at_in(l, &t, &places, encoding_of(e), MemberIndex(index), out))
-}
-
-#[no_mangle]
-pub extern "C" fn loes_opened_rank(e: Opened, l: &[u8], offset: usize) -> Answer
-    requires { ⌜ Opens (now l) (encodingOf e) ⌝ }
-    ensures { λ r. ⌜ gives r [] ≡ coded (rankCall (now (l .entry)) offset) ⌝ }
-{
-    let t = bits::tallies();
-    ranked(encoding::rank_in(l, &t, encoding_of(e), EdgeOffset(offset)))
+    ranked(encoding::rank(l, offset))
 }
 
 // ---- The cursor
@@ -349,104 +311,229 @@ fn state_code(s: State) -> usize
     }
 }
 
-fn refused_step(k: u8, s: usize) -> Step
-    ensures { λ r. ⌜ r ≡ stepCode (model.refused k) s ⌝ }
+fn step_answer(a: cursor::Step) -> Answer
+    ensures { λ r. ⌜ r ≡ codeOf (cursor.stepAnswer a) ⌝ }
 {
-    Step {
-        kind: REFUSED,
-        value: k as usize,
-        state: s,
+    match a {
+        cursor::Step::Refused(k) => refused(k),
+        cursor::Step::Wrote(n) => key_bytes(n),
     }
 }
 
-fn step_coded(w: Walked) -> Step
-    ensures { λ r. ⌜ r ≡ stepCode (cursor.stepAnswer (w .answer)) (stateCode (cursor.stateOf (w .state))) ⌝ }
+// A step's answer and the cursor after it.
+fn step_coded(s: Stepped) -> Moved
+    ensures { λ r. ⌜ ((out : Bytes) → moves r out ≡ walkedBy (cursor.steppedOf s out)) ⌝ }
 {
-    let to = w.state;
-    let state = state_code(to);
-    let answer = w.answer;
-    match answer {
-        cursor::Step::Refused(k) => refused_step(k, state),
-        cursor::Step::Wrote(n) => Step {
-            kind: VALUE,
-            value: n,
-            state,
+    let to = s.cursor;
+    let state = to.state;
+    let offsets = to.offsets;
+    let answer = s.answer;
+    Moved {
+        cursor: Cursor {
+            state: state_code(state),
+            offsets,
         },
+        answer: step_answer(answer),
     }
 }
 
-// A step with the cursor in its parts: 15 for what is no state, then as the cursor's step says.
-fn step_in(l: &[u8], t: &[u8], e: Encoding, s: usize, offsets: &mut [usize], out: &mut [u8]) -> Step
+// Behind the check: 15 for what is no state, then as the cursor's step says.
+fn advanced_in(l: &[u8], t: &[u8], e: Encoding, c: Cursor, out: &mut [u8]) -> Moved
     requires { ⌜ Opens (now l) e × Tallies (now t) ⌝ }
-    ensures { λ r. ⌜ walks r (now (offsets .exit)) (now (out .exit)) ≡ stepAfter (opened (entryIn (now (l .entry)))) s (now (offsets .entry)) (now (out .entry)) ⌝ }
+    ensures { λ r. ⌜ moves r (now (out .exit)) ≡ stepAfter (opened (entryIn (now (l .entry)))) (c .state) (numbers (c .offsets)) (now (out .entry)) ⌝ }
 {
+    let s = c.state;
     if s > AFTER {
-        return refused_step(BAD_CURSOR, s);
+        return Moved {
+            cursor: c,
+            answer: refused(BAD_CURSOR),
+        };
     }
-    let from = state_of(s);
-    step_coded(cursor::step_any(l, t, e, from, offsets, out))
+    let state = state_of(s);
+    let offsets = c.offsets;
+    let from = cursor::Cursor { state, offsets };
+    step_coded(cursor::advanced(l, t, e, from, out))
 }
 
-// Moves a cursor on to the next member and writes its key to the front of a buffer.
-#[no_mangle]
-pub extern "C" fn loes_advance(
-    l: &[u8],
-    state: usize,
-    offsets: &mut [usize],
-    out: &mut [u8],
-) -> Step
-    ensures { λ r. ⌜ walks r (now (offsets .exit)) (now (out .exit)) ≡ stepCall (now (l .entry)) state (now (offsets .entry)) (now (out .entry)) ⌝ }
+// The step by value.
+pub fn advanced(l: &[u8], c: Cursor, out: &mut [u8]) -> Moved
+    ensures { λ r. ⌜ moves r (now (out .exit)) ≡ stepCall (now (l .entry)) (c .state) (numbers (c .offsets)) (now (out .entry)) ⌝ }
 {
     let t = bits::tallies();
     match encoding::check(l, &t) {
-        Checked::Refused(k) => refused_step(k, state),
-        Checked::Opened(e) => step_in(l, &t, e, state, offsets, out),
+        Checked::Refused(k) => Moved {
+            cursor: c,
+            answer: refused(k),
+        },
+        Checked::Opened(e) => advanced_in(l, &t, e, c, out),
     }
 }
 
+// Moves a lent cursor on to the next member and writes its key to the front of a buffer (document 01: the step).
 #[no_mangle]
-pub extern "C" fn loes_opened_advance(
-    e: Opened,
+pub extern "C" fn loes_advance(l: &[u8], cursor: &mut Cursor, out: &mut [u8]) -> Answer
+    ensures { λ r. ⌜ walks r (now (cursor .exit) .state) (numbers (now (cursor .exit) .offsets)) (now (out .exit)) ≡ stepCall (now (l .entry)) (now (cursor .entry) .state) (numbers (now (cursor .entry) .offsets)) (now (out .entry)) ⌝ }
+{
+    let s = advanced(l, *cursor, out);
+    *cursor = s.cursor;
+    s.answer
+}
+
+// ---- Behind the check, for the Rust crate alone: an encoding by the numbers that opening told of these bytes
+#[no_mangle]
+pub extern "C" fn loes_unchecked_contains(
+    width: usize,
+    count: usize,
+    bits: usize,
+    l: &[u8],
+    key: &[u8],
+) -> Answer
+    requires { ⌜ Told width count bits (now l) ⌝ }
+    ensures { λ r. ⌜ gives r [] ≡ coded (containsCall (now (l .entry)) (now (key .entry))) ⌝ }
+{
+    let t = bits::tallies();
+    let e = Encoding::new(width, count, bits);
+    membership(query::contains_in(l, &t, e, key))
+}
+
+#[no_mangle]
+pub extern "C" fn loes_unchecked_index_of(
+    width: usize,
+    count: usize,
+    bits: usize,
+    l: &[u8],
+    key: &[u8],
+) -> Answer
+    requires { ⌜ Told width count bits (now l) ⌝ }
+    ensures { λ r. ⌜ gives r [] ≡ coded (indexOfCall (now (l .entry)) (now (key .entry))) ⌝ }
+{
+    let t = bits::tallies();
+    let e = Encoding::new(width, count, bits);
+    lookup(query::index_of_in(l, &t, e, key))
+}
+
+#[no_mangle]
+pub extern "C" fn loes_unchecked_lower_bound(
+    width: usize,
+    count: usize,
+    bits: usize,
+    l: &[u8],
+    key: &[u8],
+) -> Answer
+    requires { ⌜ Told width count bits (now l) ⌝ }
+    ensures { λ r. ⌜ gives r [] ≡ coded (lowerBoundCall (now (l .entry)) (now (key .entry))) ⌝ }
+{
+    let t = bits::tallies();
+    let e = Encoding::new(width, count, bits);
+    bound(query::lower_bound_in(l, &t, e, key))
+}
+
+#[no_mangle]
+pub extern "C" fn loes_unchecked_key_at(
+    width: usize,
+    count: usize,
+    bits: usize,
+    l: &[u8],
+    index: MemberIndex,
+    out: &mut [u8],
+) -> Answer
+    requires { ⌜ Told width count bits (now l) ⌝ }
+    ensures { λ r. ⌜ gives r (now (out .exit) ∷ []) ≡ coded (keyAtCall (now (l .entry)) (index .0) (now (out .entry))) ⌝ }
+{
+    let t = bits::tallies();
+    let places = bits::places();
+    let e = Encoding::new(width, count, bits);
+    key_written(query::key_at_in(l, &t, &places, e, index, out))
+}
+
+#[no_mangle]
+pub extern "C" fn loes_unchecked_rank(
+    width: usize,
+    count: usize,
+    bits: usize,
+    l: &[u8],
+    offset: EdgeOffset,
+) -> Answer
+    requires { ⌜ Told width count bits (now l) ⌝ }
+    ensures { λ r. ⌜ gives r [] ≡ coded (rankCall (now (l .entry)) (offset .0)) ⌝ }
+{
+    let t = bits::tallies();
+    let e = Encoding::new(width, count, bits);
+    ranked(encoding::rank_in(l, &t, e, offset))
+}
+
+// ---- Steps behind the check over lent offsets
+fn walk_coded(w: Walked) -> Step
+    ensures { λ r. ⌜ ((os : List ℕ) (out : Bytes) → walks (r .answer) (r .state) os out ≡ walkedBy (cursor.walkedOf w os out)) ⌝ }
+{
+    let to = w.state;
+    let answer = w.answer;
+    Step {
+        answer: step_answer(answer),
+        state: state_code(to),
+    }
+}
+
+// From any cursor: 15 for what is no state, then as the cursor's step says.
+#[no_mangle]
+pub extern "C" fn loes_unchecked_advance(
+    width: usize,
+    count: usize,
+    bits: usize,
     l: &[u8],
     state: usize,
     offsets: &mut [usize],
     out: &mut [u8],
 ) -> Step
-    requires { ⌜ Opens (now l) (encodingOf e) ⌝ }
-    ensures { λ r. ⌜ walks r (now (offsets .exit)) (now (out .exit)) ≡ stepCall (now (l .entry)) state (now (offsets .entry)) (now (out .entry)) ⌝ }
+    requires { ⌜ Told width count bits (now l) ⌝ }
+    ensures { λ r. ⌜ walks (r .answer) (r .state) (now (offsets .exit)) (now (out .exit)) ≡ stepCall (now (l .entry)) state (now (offsets .entry)) (now (out .entry)) ⌝ }
 {
+    if state > AFTER {
+        return Step {
+            answer: refused(BAD_CURSOR),
+            state,
+        };
+    }
     let t = bits::tallies();
-    step_in(l, &t, encoding_of(e), state, offsets, out)
+    let e = Encoding::new(width, count, bits);
+    let from = state_of(state);
+    walk_coded(cursor::step_any(l, &t, e, from, offsets, out))
 }
 
 // The same for a cursor that is right, as a step that was not refused 15 leaves it: 15 is not tested.
 #[no_mangle]
-pub extern "C" fn loes_opened_next(
-    e: Opened,
+pub extern "C" fn loes_unchecked_next(
+    width: usize,
+    count: usize,
+    bits: usize,
     l: &[u8],
     state: usize,
     offsets: &mut [usize],
     out: &mut [u8],
 ) -> Step
-    requires { ⌜ Opens (now l) (encodingOf e) × (isState state ≡ true) × (isCursorOf (entryIn (now l)) (cursorIn state (now offsets)) ≡ true) ⌝ }
-    ensures { λ r. ⌜ walks r (now (offsets .exit)) (now (out .exit)) ≡ stepCall (now (l .entry)) state (now (offsets .entry)) (now (out .entry)) ⌝ }
+    requires { ⌜ Told width count bits (now l) × (isState state ≡ true) × (isCursorOf (entryIn (now l)) (cursorIn state (now offsets)) ≡ true) ⌝ }
+    ensures { λ r. ⌜ walks (r .answer) (r .state) (now (offsets .exit)) (now (out .exit)) ≡ stepCall (now (l .entry)) state (now (offsets .entry)) (now (out .entry)) ⌝ }
 {
+    let e = Encoding::new(width, count, bits);
     let from = state_of(state);
-    step_coded(cursor::step_right(l, encoding_of(e), from, offsets, out))
+    walk_coded(cursor::step_right(l, e, from, offsets, out))
 }
 
 // That step, and if it wrote a key, as many more as the buffer has room for.
 #[no_mangle]
-pub extern "C" fn loes_opened_walk(
-    e: Opened,
+pub extern "C" fn loes_unchecked_walk(
+    width: usize,
+    count: usize,
+    bits: usize,
     l: &[u8],
     state: usize,
     offsets: &mut [usize],
     out: &mut [u8],
 ) -> Step
-    requires { ⌜ Opens (now l) (encodingOf e) × (isState state ≡ true) × (isCursorOf (entryIn (now l)) (cursorIn state (now offsets)) ≡ true) ⌝ }
-    ensures { λ r. ⌜ walks r (now (offsets .exit)) (now (out .exit)) ≡ walkCall (now (l .entry)) state (now (offsets .entry)) (now (out .entry)) ⌝ }
+    requires { ⌜ Told width count bits (now l) × (isState state ≡ true) × (isCursorOf (entryIn (now l)) (cursorIn state (now offsets)) ≡ true) ⌝ }
+    ensures { λ r. ⌜ walks (r .answer) (r .state) (now (offsets .exit)) (now (out .exit)) ≡ walkCall (now (l .entry)) state (now (offsets .entry)) (now (out .entry)) ⌝ }
 {
+    let e = Encoding::new(width, count, bits);
     let from = state_of(state);
-    step_coded(cursor::walk_right(l, encoding_of(e), from, offsets, out))
+    walk_coded(cursor::walk_right(l, e, from, offsets, out))
 }

@@ -39,19 +39,13 @@ impl Cursor {
     pub fn before() -> Cursor
         ensures { λ r. ⌜ cursorOf r ≡ at spec.before (replicate maxWidth 0) ⌝ }
     {
-        Cursor::of(State::Before, [0; Encoding::MAX_WIDTH])
+        Cursor::of(State::Before, [EdgeOffset(0); Encoding::MAX_WIDTH])
     }
 
     // In a state, with a path's offsets.
-    pub fn of(state: State, path: [usize; Encoding::MAX_WIDTH]) -> Cursor
-        ensures { λ r. ⌜ cursorOf r ≡ at (stateOf state) path ⌝ }
+    pub fn of(state: State, offsets: [EdgeOffset; Encoding::MAX_WIDTH]) -> Cursor
+        ensures { λ r. ⌜ cursorOf r ≡ at (stateOf state) (numbers offsets) ⌝ }
     {
-        let mut offsets = [EdgeOffset(0); Encoding::MAX_WIDTH];
-        let mut d: usize = 0;
-        while d < Encoding::MAX_WIDTH {
-            offsets[d] = EdgeOffset(path[d]);
-            d += 1;
-        }
         Cursor { state, offsets }
     }
 }
@@ -69,6 +63,19 @@ fn path_of(c: Cursor) -> [usize; Encoding::MAX_WIDTH]
         d += 1;
     }
     path
+}
+
+// Numbers as a cursor's offsets.
+fn offsets_of(path: [usize; Encoding::MAX_WIDTH]) -> [EdgeOffset; Encoding::MAX_WIDTH]
+    ensures { λ r. ⌜ numbers r ≡ path ⌝ }
+{
+    let mut offsets = [EdgeOffset(0); Encoding::MAX_WIDTH];
+    let mut d: usize = 0;
+    while d < Encoding::MAX_WIDTH {
+        offsets[d] = EdgeOffset(path[d]);
+        d += 1;
+    }
+    offsets
 }
 
 // What a step returns: a refusal, or the bytes of the key that it wrote; 0 if it went to after.
@@ -417,8 +424,9 @@ pub fn advanced(l: &[u8], t: &[u8], e: Encoding, c: Cursor, out: &mut [u8]) -> S
     let walked = step_any(l, t, e, from, &mut path, out);
     let answer = walked.answer;
     let to = walked.state;
+    let offsets = offsets_of(path);
     Stepped {
-        cursor: Cursor::of(to, path),
+        cursor: Cursor::of(to, offsets),
         answer,
     }
 }

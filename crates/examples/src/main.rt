@@ -2,18 +2,17 @@
 ghost use Prim.Native.Nat.{_<_, _≤_};
 ghost use mathlib.Core.Path.{_≡_};
 ghost use lib.ListN.{length};
+use bits::EdgeOffset;
+use bits::MemberIndex;
 use bytes::scan;
 use capi::Answer;
+use capi::Cursor;
 use encoding::Encoding;
 use libc::STDIN_FILENO;
 use libc::STDOUT_FILENO;
 
-// The kinds of an answer, by their numbers in loes.h.
-const VALUE: usize = 0;
-
-const ABSENT: usize = 1;
-
-const REFUSED: usize = 2;
+// An answer that is there.
+const FOUND: u32 = 1;
 
 // The size of the longest output buffer, and what fills it before a call.
 const ROOM: usize = 2048;
@@ -23,9 +22,7 @@ const FILL: u8 = 0x77;
 // As many bytes of a buffer are shown.
 const SHOWN: usize = 64;
 
-// A cursor as numbers, its state and its offsets, and as many of them are shown.
-const CURSOR: usize = 1 + Encoding::MAX_WIDTH;
-
+// As many numbers of a cursor are shown: its state and its first offsets.
 const CURSOR_SHOWN: usize = 5;
 
 // A number that has grown to this takes no further digit.
@@ -127,6 +124,11 @@ fn lesser(x: usize, y: usize) -> usize
     if x < y { x } else { y }
 }
 
+// The first of some bytes; 0 if there is none.
+fn first_of(bytes: &[u8]) -> usize {
+    if 0 < bytes.len() { wide(bytes[0]) } else { 0 }
+}
+
 // The bytes that a text is in hexadecimal, put into a buffer as far as they fit.
 fn bytes_of<'a>(text: &[u8], room: &'a mut [u8]) -> &'a mut [u8] {
     let n = lesser(text.len() / 2, room.len());
@@ -212,72 +214,73 @@ fn put_bytes(s: &[u8]) {
 }
 
 // A number, absent, or a refusal.
-fn put_answer(kind: usize, n: usize) {
-    if kind == ABSENT {
+fn put_answer(a: Answer) {
+    if a.refusal > 0 {
+        put(b" refused");
+        put_number(a.refusal as usize);
+        return;
+    }
+    if a.found == 0 {
         put(b" absent");
         return;
     }
-    if kind == REFUSED {
-        put(b" refused");
-    }
-    put_number(n);
+    put_number(a.value);
 }
 
 // ---- Calls
 // The width and the count are put, the edges are the answer.
 fn open(l: &[u8]) -> Answer {
     let o = capi::loes_open(l);
-    if o.kind == VALUE {
-        put_number(o.width);
+    if o.refusal == 0 {
+        put_number(o.width as usize);
         put_number(o.count);
-        return Answer {
-            kind: VALUE,
-            value: o.bits,
-        };
     }
     Answer {
-        kind: o.kind,
-        value: o.width,
+        refusal: o.refusal,
+        found: FOUND,
+        value: o.bits,
     }
 }
 
 // A cursor from the bytes of its first numbers; the others are 0.
-fn cursor_of(bytes: &[u8]) -> [usize; CURSOR]
-    ensures { λ r. ⌜ 257 ≡ length r ⌝ }
-{
-    let n = lesser(bytes.len(), CURSOR);
-    let mut cursor = [0usize; CURSOR];
-    let mut i: usize = 0;
+fn cursor_of(bytes: &[u8]) -> Cursor {
+    let mut offsets = [EdgeOffset(0); Encoding::MAX_WIDTH];
+    let n = lesser(bytes.len(), Encoding::MAX_WIDTH);
+    let mut i: usize = 1;
     while i < n {
-        cursor[i] = wide(bytes[i]);
+        offsets[i - 1] = EdgeOffset(wide(bytes[i]));
         i += 1;
     }
-    cursor
+    let state = first_of(bytes);
+    Cursor { state, offsets }
 }
 
 // The bytes of a cursor's first numbers.
-fn bytes_in(cursor: &[usize; CURSOR]) -> [u8; CURSOR_SHOWN]
+fn bytes_in(cursor: Cursor) -> [u8; CURSOR_SHOWN]
     ensures { λ r. ⌜ 5 ≡ length r ⌝ }
 {
-    let mut bytes = [0u8; CURSOR_SHOWN];
-    let mut i: usize = 0;
+    let offsets = cursor.offsets;
+    let mut bytes = [(cursor.state % 256) as u8; CURSOR_SHOWN];
+    let mut i: usize = 1;
     while i < CURSOR_SHOWN {
-        bytes[i] = (cursor[i] % 256) as u8;
+        let o = offsets[i - 1];
+        bytes[i] = (o.0 % 256) as u8;
         i += 1;
     }
     bytes
 }
 
-// The cursor after the step is put, the bytes written are the answer.
+// The cursor after the step is put, the bytes written are the answer: 0 where it goes to after.
 fn advance(l: &[u8], from: &[u8], out: &mut [u8]) -> Answer {
-    let mut cursor = cursor_of(from);
-    let s = capi::loes_advance(l, cursor[0], &mut cursor[1..], out);
-    cursor[0] = s.state;
-    let shown = bytes_in(&cursor);
+    let s = capi::advanced(l, cursor_of(from), out);
+    let to = s.cursor;
+    let shown = bytes_in(to);
     put_bytes(&shown);
+    let answer = s.answer;
     Answer {
-        kind: s.kind,
-        value: s.value,
+        refusal: answer.refusal,
+        found: FOUND,
+        value: answer.value,
     }
 }
 
@@ -285,11 +288,11 @@ fn advance(l: &[u8], from: &[u8], out: &mut [u8]) -> Answer {
 fn answer(letter: u8, l: &[u8], other: &[u8], x: usize, out: &mut [u8]) -> Answer {
     match letter {
         b'o' => open(l),
-        b'r' => capi::loes_rank(l, x),
+        b'r' => capi::loes_rank(l, EdgeOffset(x)),
         b'c' => capi::loes_contains(l, other),
         b'i' => capi::loes_index_of(l, other),
         b'l' => capi::loes_lower_bound(l, other),
-        b'k' => capi::loes_key_at(l, x, out),
+        b'k' => capi::loes_key_at(l, MemberIndex(x), out),
         b'p' => capi::loes_pack(x, l, out),
         b'u' => capi::loes_union(l, other, out),
         b'd' => capi::loes_difference(l, other, out),
@@ -317,7 +320,7 @@ fn run_call(line: &[u8], l: &[u8], other: &[u8]) {
     let out = front(&mut room, number(word(line, 3)));
     put(b"=");
     let a = answer(letter_of(line), l, other, number(word(line, 2)), out);
-    put_answer(a.kind, a.value);
+    put_answer(a);
     put_bytes(out);
     put(b"\n");
 }

@@ -258,17 +258,12 @@ pub fn damaged_cursor(rng: &mut Rng, laid: &Laid, places: &[&Cursor]) -> Cursor 
             let d = rng.below(m + 1);
             cursor.offsets[d..].copy_from_slice(&other.offsets[d..]);
         }
-        // how many offsets
-        5 => {
-            let n = *rng.pick(&[0, 1, m, 255, 257, 300]);
-            cursor.offsets.resize(n, 0);
-        }
         // a record's other edge
-        6 => {
+        5 => {
             let i = rng.below(m);
             cursor.offsets[i] ^= 1;
         }
-        7 => cursor.offsets = (0..256).map(|_| rng.next() % (laid.bits() as u64 + 1)).collect(),
+        6 => cursor.offsets = (0..256).map(|_| rng.next() % (laid.bits() as u64 + 1)).collect(),
         // none
         _ => (),
     }

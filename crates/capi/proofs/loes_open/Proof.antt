@@ -1,5 +1,6 @@
 use mathlib.Core.Path.{subst}
 use Rattle.encoding.specs.Fields.{Checks}
+use Rattle.encoding.proofs.Opened.{opens-room}
 use Rattle.capi.proofs.Codes.{open-no, open-yes}
 use borrow.Author.Needs.{needs}
 use Rattle.capi.proofs.loes_open.Statement.{statement}
@@ -23,14 +24,14 @@ no-opening-requires c κs = search needs
 enum-known-e : tie.Need-enum-known-e
 enum-known-e c = search needs
 
-opening-requires : tie.Need-opening-requires
-opening-requires c κs = search needs
+numbers-of-requires : tie.Need-numbers-of-requires
+numbers-of-requires c κs = opens-room _ _ (subst (Checks _) (c .before .e .given .1) (c .before .before .before .check .ensures)) .narrow
 
 returns : tie.Need-returns
 returns c = open-no _ _ _ (subst (Checks _) (c .before .before .k .given .1) (c .before .before .before .before .check .ensures)) (c .no-opening .ensures)
 
 returns-2 : tie.Need-returns-2
-returns-2 c = open-yes _ _ _ (subst (Checks _) (c .before .before .e .given .1) (c .before .before .before .before .check .ensures)) (c .opening .ensures)
+returns-2 c = open-yes _ _ _ (subst (Checks _) (c .before .before .e .given .1) (c .before .before .before .before .check .ensures)) (c .numbers-of .ensures)
 
 pub loes-open-spec : {M : Type 1} → statement M
 loes-open-spec =
@@ -42,6 +43,6 @@ loes-open-spec =
     enum-known-k
     no-opening-requires
     enum-known-e
-    opening-requires
+    numbers-of-requires
     returns
     returns-2)

@@ -1,3 +1,5 @@
+use mathlib.Core.Path.{ap, _∙_}
+use Rattle.cursor.specs.Steps.{at}
 use Rattle.cursor.proofs.Stepping.{by-value}
 use borrow.Author.Needs.{needs}
 use Rattle.cursor.proofs.advanced.Statement.{statement}
@@ -12,6 +14,9 @@ slice-aggregate-step-any c = search needs
 step-any-requires : tie.Need-step-any-requires
 step-any-requires c κs = search needs
 
+offsets-of-requires : tie.Need-offsets-of-requires
+offsets-of-requires c κs = search needs
+
 of-requires : tie.Need-of-requires
 of-requires c κs = search needs
 
@@ -19,7 +24,7 @@ same-length : tie.Need-same-length
 same-length c = search needs
 
 returns : tie.Need-returns
-returns c = by-value _ _ _ _ _ _ _ _ _ (c .of .ensures) (c .before .before .before .before .before .before .before .path-of .ensures) (c .before .before .before .before .step-any .ensures)
+returns c = by-value _ _ _ _ _ _ _ _ _ (c .of .ensures ∙ ap (at _) (c .before .offsets-of .ensures)) (c .before .before .before .before .before .before .before .before .path-of .ensures) (c .before .before .before .before .before .step-any .ensures)
 
 pub advanced-spec : {M : Type 1} → statement M
 advanced-spec =
@@ -28,6 +33,7 @@ advanced-spec =
     path-of-requires
     slice-aggregate-step-any
     step-any-requires
+    offsets-of-requires
     of-requires
     same-length
     returns)
