@@ -207,3 +207,27 @@ fn cursors() {
         assert_eq!(wrong, Cursor::from_parts(State::After, [EdgeOffset(1); 256]));
     });
 }
+
+/// No call needs more stack than the header allows it, on the largest sets.
+#[test]
+fn stack() {
+    const ALLOWED: usize = 384 << 10;
+    let halves = [0, 1].map(|first| half_set(first).lay());
+    let (key, count) = (halves[0].set.keys.first().unwrap().clone(), halves[0].count() as u64);
+    let batch = batch_of(&halves[0].set);
+    let [a, b] = halves.map(|laid| laid.encode());
+    let (mut out, mut cursor) = (vec![0; Encoding::MAX_BYTES], Cursor::new());
+    let calls = move || {
+        assert_eq!(loes::pack(19, &batch, &mut out), Ok(a.len()));
+        assert_eq!(loes::union(&a, &b, &mut out), Err(Refusal::TooLarge));
+        assert_eq!(loes::difference(&a, &b, &mut out), Ok(a.len()));
+        assert_eq!(loes::contains(&a, &key), Ok(true));
+        assert_eq!(loes::index_of(&a, &key), Ok(Some(MemberIndex(0))));
+        assert_eq!(loes::lower_bound(&a, &key), Ok(Some(MemberIndex(0))));
+        assert_eq!(loes::key_at(&a, MemberIndex(count - 1), &mut out), Ok(key.len()));
+        assert_eq!(loes::rank(&a, EdgeOffset(0)), Ok(1));
+        assert_eq!(loes::advance(&a, &mut cursor, &mut out), Ok(key.len()));
+        assert_eq!(Encoding::open(&a).map(|encoding| encoding.len()), Ok(count));
+    };
+    std::thread::Builder::new().stack_size(ALLOWED).spawn(calls).unwrap().join().unwrap();
+}
