@@ -1,5 +1,5 @@
 # `make run` prints the sample; `make test` passes everything, and its last line is rt's 'N passed, 0 failed'.
-.PHONY: run test format rust soak bench beside
+.PHONY: run test format rust soak bench beside requires
 
 # the program on document 01's example P2
 run:
@@ -37,3 +37,9 @@ beside: target/staticlib/libcapi.a
 	$(CC) -shared -o target/beside/now.so -Wl,--whole-archive $< -Wl,--no-whole-archive,-Bsymbolic,-z,notext
 	$(CC) -O2 -Iinclude -o target/beside/beside rust/benches/beside.c -ldl
 	target/beside/beside $${LOES_REPS:-9} target/beside/before.so target/beside/now.so
+
+# what each inner function asks of its callers; a call of document 01 is not among them
+requires:
+	@awk 'FNR == 1 { split(FILENAME, path, "/"); name = "" } \
+	    /(^| )fn [a-z]/ { match($$0, /fn [a-z_0-9]+/); name = /pub / ? path[2] "::" substr($$0, RSTART + 3, RLENGTH - 3) : "" } \
+	    /^ *requires / && name { sub(/^ */, ""); print name ": " $$0 }' crates/*/src/*.rt

@@ -1,6 +1,7 @@
 //! The C header, compiled by a C compiler (`cc`, or the one that CC names) and linked with the library.
 
 use loes::Encoding;
+use std::collections::BTreeSet;
 use std::path::Path;
 use std::process::Command;
 
@@ -30,4 +31,19 @@ fn the_header_is_right() {
     ];
     let right = format!("{}\nright\n", numbers.map(|number| number.to_string()).join(" "));
     assert_eq!(String::from_utf8_lossy(&output.stdout), right, "{}", String::from_utf8_lossy(&output.stderr));
+}
+
+/// The header declares each exported function that requires nothing, and no other.
+#[test]
+fn the_header_has_only_total_calls() {
+    let here = Path::new(env!("CARGO_MANIFEST_DIR"));
+    let read = |file: &str| std::fs::read_to_string(here.join(file)).unwrap();
+    let name = |text: &str| text.split('(').next().unwrap().to_string();
+    let (source, header) = (read("../crates/capi/src/lib.rt"), read("../include/loes.h"));
+    let exported = source.split("#[no_mangle]").skip(1).map(|text| text.split("\n{\n").next().unwrap());
+    let total: BTreeSet<String> =
+        exported.filter(|head| !head.contains("requires")).map(|head| name(head.split("fn ").nth(1).unwrap())).collect();
+    let declared = header.lines().filter(|line| line.starts_with("loes_") && line.contains('('));
+    assert_eq!(declared.map(|line| name(line.split(' ').nth(1).unwrap())).collect::<BTreeSet<_>>(), total);
+    assert_eq!(total.len(), 10);
 }
