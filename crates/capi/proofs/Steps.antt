@@ -4,17 +4,18 @@ use Prim.Native.Nat.{ℕ, _≤_, _<_}
 use mathlib.Core.Bool.{true, false}
 use mathlib.Core.List.{List}
 use native.Mathlib.Omega.{arith}
+use native.Mathlib.Decide.{decLe}
 use Rattle.loes.specs.Bytes.{Bytes}
 use Rattle.loes.specs.Entry.{Entry}
 use Rattle.loes.specs.Refusals.{badCursor}
-use Rattle.loes.specs.Read.{entryIn, rejected, opened, read}
+use Rattle.loes.specs.Read.{Reading, entryIn, rejected, opened, read}
 use Rattle.loes.specs.Cursor as model
 use Rattle.loes.proofs.Tests.{lt-yes, lt-no, yes-lt}
 use Rattle.cursor.specs.declared.Step.{Step}
 use Rattle.cursor.specs.Steps.{at, stepAnswer}
 use Rattle.capi.specs.declared.Answer.{Answer}
 use Rattle.capi.specs.Coded.{refuses, codeOf}
-use Rattle.capi.specs.Steps.{Walked, walks, stateIn, cursorIn, isState, walkedBy, doneAfter, stepAfter, stepCall}
+use Rattle.capi.specs.Steps.{Walked, walks, stateCode, stateIn, cursorIn, isState, walkedBy, doneAfter, stepAfter, stepCall}
 
 pub no-state : (s : ℕ) → 2 < s → isState s ≡ false
 unfolding isState
@@ -50,3 +51,24 @@ module _ (does : Entry → model.Cursor → Bytes → model.Advanced) where
 
   pub call-on : (l : Bytes) (s : ℕ) (os : List ℕ) (out : Bytes) (w : Walked) → read l ≡ opened (entryIn l) → w ≡ doneAfter does (opened (entryIn l)) s os out → w ≡ doneAfter does (read l) s os out
   call-on l s os out w o q = rw o q
+
+-- ---- A step in C is the model's step on bytes
+state-again : (s : ℕ) → isState s ≡ true → stateCode (stateIn s) ≡ s
+state-again s h =
+    let l = state-is s h in
+    elim (decLe s 0) [
+      | yes a ↦ let q : s ≡ 0 = omega arith in rw q
+      | no a ↦ elim (decLe s 1) [
+        | yes b ↦ let q : s ≡ 1 = omega arith in rw q
+        | no b ↦ let q : s ≡ 2 = omega (arith, l) in rw q
+      ]
+    ]
+
+step-reading : (r : Reading) (s : ℕ) (os : List ℕ) (out : Bytes) → isState s ≡ true → stepAfter r s os out ≡ walkedBy (model.advanceReading r (cursorIn s os) out)
+unfolding doneAfter model.advanceReading model.stays
+step-reading (rejected k) s os out h = rw (state-again s h)
+step-reading (opened e) s os out h = rw h
+
+pub step-call : (l : Bytes) (s : ℕ) (os : List ℕ) (out : Bytes) → isState s ≡ true → stepCall l s os out ≡ walkedBy (model.advanceCall l (cursorIn s os) out)
+unfolding model.advanceCall
+step-call l s os out h = step-reading (read l) s os out h
