@@ -11,10 +11,9 @@ use Rattle.loes.specs.Refusals.{badCursor}
 use Rattle.loes.specs.Read.{Reading, entryIn, rejected, opened, read}
 use Rattle.loes.specs.Cursor as model
 use Rattle.loes.proofs.Tests.{lt-yes, lt-no, yes-lt}
-use Rattle.cursor.specs.declared.Step.{Step}
-use Rattle.cursor.specs.Steps.{at, stepAnswer}
+use Rattle.cursor.specs.Steps.{at}
 use Rattle.capi.specs.declared.Answer.{Answer}
-use Rattle.capi.specs.Coded.{refuses, codeOf}
+use Rattle.capi.specs.Coded.{refuses}
 use Rattle.capi.specs.Steps.{Walked, walks, stateCode, stateIn, cursorIn, isState, walkedBy, doneAfter, stepAfter, stepCall}
 
 pub no-state : (s : ℕ) → 2 < s → isState s ≡ false
@@ -43,11 +42,11 @@ not-coded e s os out a h q = rw (h, q)
 
 -- the step, or a walk of steps
 module _ (does : Entry → model.Cursor → Bytes → model.Advanced) where
-  pub walked-on : (e : Entry) (x : model.State) (s : ℕ) (os out : List ℕ) (d : model.Advanced) (w : Walked) → isState s ≡ true → x ≡ stateIn s → d ≡ does e (at x os) out → w ≡ walkedBy d → w ≡ doneAfter does (opened e) s os out
+  pub walked-on : (e : Entry) (x : model.State) (s : ℕ) (os out : List ℕ) (k : model.Cursor) (d : model.Advanced) (w : Walked) → isState s ≡ true → x ≡ stateIn s → k ≡ at x os → d ≡ does e k out → w ≡ walkedBy d → w ≡ doneAfter does (opened e) s os out
   unfolding doneAfter
-  walked-on e x s os out d w h k a q =
-      let z : walkedBy (does e (cursorIn s os) out) ≡ doneAfter does (opened e) s os out = rw h in
-      q ∙ ap walkedBy (a ∙ ap (λ (y : model.State). does e (at y os) out) k) ∙ z
+  walked-on e x s os out k d w h z c a q =
+      let y : walkedBy (does e (cursorIn s os) out) ≡ doneAfter does (opened e) s os out = rw h in
+      q ∙ ap walkedBy (a ∙ ap (λ (n : model.Cursor). does e n out) (c ∙ ap (λ (n : model.State). at n os) z)) ∙ y
 
   pub call-on : (l : Bytes) (s : ℕ) (os : List ℕ) (out : Bytes) (w : Walked) → read l ≡ opened (entryIn l) → w ≡ doneAfter does (opened (entryIn l)) s os out → w ≡ doneAfter does (read l) s os out
   call-on l s os out w o q = rw o q

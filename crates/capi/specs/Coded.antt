@@ -7,7 +7,6 @@ use lib.Dec.{eqb}
 use Rattle.loes.specs.Bytes.{Bytes}
 use Rattle.loes.specs.Model as model
 use Rattle.loes.specs.Calls.{openCall}
-use Rattle.encoding.specs.declared.Encoding.{Encoding}
 use Rattle.capi.specs.declared.Answer.{Answer}
 use Rattle.capi.specs.declared.Opened.{Opened}
 

@@ -351,7 +351,7 @@ fn advanced_in(l: &[u8], t: &[u8], e: Encoding, c: Cursor, out: &mut [u8]) -> Mo
     }
     let state = state_of(s);
     let offsets = c.offsets;
-    let from = cursor::Cursor { state, offsets };
+    let from = cursor::Cursor::of(state, offsets);
     step_coded(cursor::advanced(l, t, e, from, out))
 }
 

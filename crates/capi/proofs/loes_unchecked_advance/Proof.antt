@@ -1,3 +1,4 @@
+use mathlib.Core.Path.{refl}
 use Rattle.loes.specs.Cursor.{advance}
 use Rattle.capi.proofs.Codes.{told-room, told-numbers, told-opens}
 use Rattle.capi.proofs.Steps.{no-state, is-state, not-coded, walked-on, call-on}
@@ -38,7 +39,7 @@ same-length-2 c = search needs
 returns-2 : tie.Need-returns-2
 returns-2 c =
     let s = c .before .before .before .before .before .before .before .before .before .before .before .before .before .before .before .before in
-    call-on advance _ _ _ _ _ (told-numbers _ _ _ _ (s .pre) .reads) (walked-on advance _ _ _ _ _ _ _ (is-state _ (c .before .before .before .before .before .before .before .before .before .before .before .before .if1 .left)) (c .before .before .before .before .before .before .before .before .before .state-of .ensures) (c .before .before .before .before .before .step-any .ensures) (c .walk-coded .ensures _ _))
+    call-on advance _ _ _ _ _ (told-numbers _ _ _ _ (s .pre) .reads) (walked-on advance _ _ _ _ _ _ _ _ (is-state _ (c .before .before .before .before .before .before .before .before .before .before .before .before .if1 .left)) (c .before .before .before .before .before .before .before .before .before .state-of .ensures) refl (c .before .before .before .before .before .step-any .ensures) (c .walk-coded .ensures _ _))
 
 pub loes-unchecked-advance-spec : {M : Type 1} → statement M
 loes-unchecked-advance-spec =

@@ -1,3 +1,4 @@
+use mathlib.Core.Path.{refl}
 use Rattle.loes.specs.Cursor.{advance}
 use Rattle.capi.proofs.Codes.{told-room, told-numbers, told-opens}
 use Rattle.capi.proofs.Steps.{state-is, right-coded, walked-on, call-on}
@@ -28,7 +29,7 @@ same-length-2 c = search needs
 returns : tie.Need-returns
 returns c =
     let s = c .before .before .before .before .before .before .before .before .before .before .before .before .before in
-    call-on advance _ _ _ _ _ (told-numbers _ _ _ _ (s .pre .0) .reads) (walked-on advance _ _ _ _ _ _ _ (s .pre .1) (c .before .before .before .before .before .before .before .before .state-of .ensures) (c .before .before .before .before .before .step-right .ensures) (c .walk-coded .ensures _ _))
+    call-on advance _ _ _ _ _ (told-numbers _ _ _ _ (s .pre .0) .reads) (walked-on advance _ _ _ _ _ _ _ _ (s .pre .1) (c .before .before .before .before .before .before .before .before .state-of .ensures) refl (c .before .before .before .before .before .step-right .ensures) (c .walk-coded .ensures _ _))
 
 pub loes-unchecked-next-spec : {M : Type 1} → statement M
 loes-unchecked-next-spec =

@@ -1,3 +1,4 @@
+use mathlib.Core.Path.{refl}
 use Rattle.cursor.specs.Filling.{advances}
 use Rattle.capi.proofs.Codes.{told-room, told-numbers, told-opens}
 use Rattle.capi.proofs.Steps.{state-is, right-coded, walked-on, call-on}
@@ -28,7 +29,7 @@ same-length-2 c = search needs
 returns : tie.Need-returns
 returns c =
     let s = c .before .before .before .before .before .before .before .before .before .before .before .before .before in
-    call-on advances _ _ _ _ _ (told-numbers _ _ _ _ (s .pre .0) .reads) (walked-on advances _ _ _ _ _ _ _ (s .pre .1) (c .before .before .before .before .before .before .before .before .state-of .ensures) (c .before .before .before .before .before .walk-right .ensures) (c .walk-coded .ensures _ _))
+    call-on advances _ _ _ _ _ (told-numbers _ _ _ _ (s .pre .0) .reads) (walked-on advances _ _ _ _ _ _ _ _ (s .pre .1) (c .before .before .before .before .before .before .before .before .state-of .ensures) refl (c .before .before .before .before .before .walk-right .ensures) (c .walk-coded .ensures _ _))
 
 pub loes-unchecked-walk-spec : {M : Type 1} → statement M
 loes-unchecked-walk-spec =
