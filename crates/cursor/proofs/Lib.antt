@@ -7,6 +7,5 @@ pub mod Checks
 pub mod Onward
 pub mod Outset
 pub mod Stepping
-pub mod Calls
 pub mod Walk
 pub mod Filling

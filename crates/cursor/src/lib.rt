@@ -16,7 +16,6 @@ ghost use Rattle.cursor.specs.Steps.{stateOf, numbers, at, cursorOf, ste
 ghost use Rattle.cursor.specs.Filling.{bytesIn, goesOn, advances};
 use bits::EdgeOffset;
 use bits::RecordIndex;
-use encoding::Checked;
 use encoding::Encoding;
 use loes::refusal::BAD_CURSOR;
 use loes::refusal::SHORT_BUFFER;
@@ -431,26 +430,12 @@ pub fn advanced(l: &[u8], t: &[u8], e: Encoding, c: Cursor, out: &mut [u8]) -> S
     }
 }
 
-// ---- On bytes: the check first, then the step by value
-pub fn advanced_call(l: &[u8], c: Cursor, out: &mut [u8]) -> Stepped
-    ensures { λ r. ⌜ steppedOf r (now (out .exit)) ≡ spec.advanceCall (now (l .entry)) (cursorOf c) (now (out .entry)) ⌝ }
-{
-    let t = bits::tallies();
-    let checked = encoding::check(l, &t);
-    match checked {
-        Checked::Refused(k) => Stepped {
-            cursor: c,
-            answer: Step::Refused(k),
-        },
-        Checked::Opened(e) => advanced(l, &t, e, c, out),
-    }
-}
-
 // Moves a lent cursor on to the next member and writes its key to the front of a buffer (document 01: the step).
-pub fn advance(l: &[u8], cursor: &mut Cursor, out: &mut [u8]) -> Step
-    ensures { λ r. ⌜ advancedOf r (now (out .exit)) (now (cursor .exit)) ≡ spec.advanceCall (now (l .entry)) (cursorOf (now (cursor .entry))) (now (out .entry)) ⌝ }
+pub fn advance(l: &[u8], t: &[u8], e: Encoding, cursor: &mut Cursor, out: &mut [u8]) -> Step
+    requires { ⌜ Opens (now l) e × Tallies (now t) ⌝ }
+    ensures { λ r. ⌜ advancedOf r (now (out .exit)) (now (cursor .exit)) ≡ spec.advance (entryIn (now (l .entry))) (cursorOf (now (cursor .entry))) (now (out .entry)) ⌝ }
 {
-    let s = advanced_call(l, *cursor, out);
+    let s = advanced(l, t, e, *cursor, out);
     *cursor = s.cursor;
     s.answer
 }
