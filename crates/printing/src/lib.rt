@@ -1,11 +1,16 @@
 // Prints an encoding: a line of its numbers, then a line for each member, its index and its key's bytes.
 ghost use Prim.Native.Nat.{_/_, _≤_};
+ghost use mathlib.Core.Path.{_≡_};
 ghost use Rattle.loes.specs.Limits.{maxWidth};
+ghost use Rattle.loes.specs.Read.{entryIn};
+ghost use Rattle.loes.specs.Cursor as spec;
+ghost use Rattle.cursor.specs.Steps.{cursorOf, steppedOf};
 ghost use Rattle.bits.specs.Tables.{Tallies};
 ghost use Rattle.encoding.specs.Opened.{Opens};
 use bits::MemberIndex;
 use cursor::Cursor;
 use cursor::Step;
+use cursor::Stepped;
 use encoding::Checked;
 use encoding::Encoding;
 use libc::STDIN_FILENO;
@@ -104,6 +109,19 @@ fn next_line(text: &[u8], at: usize) -> usize {
     }
     flush(text, at);
     0
+}
+
+// A step by value, over the step of a lent cursor.
+fn moved(l: &[u8], t: &[u8], e: Encoding, c: Cursor, key: &mut [u8]) -> Stepped
+    requires { ⌜ Opens (now l) e × Tallies (now t) ⌝ }
+    ensures { λ r. ⌜ steppedOf r (now (key .exit)) ≡ spec.advance (entryIn (now (l .entry))) (cursorOf c) (now (key .entry)) ⌝ }
+{
+    let mut place = c;
+    let answer = cursor::advance(l, t, e, &mut place, key);
+    Stepped {
+        cursor: place,
+        answer,
+    }
 }
 
 // How many bytes of a key a step wrote.
