@@ -1,22 +1,25 @@
 // Prints an encoding: a line of its numbers, then a line for each member, its index and its key's bytes.
-ghost use Prim.Native.Nat.{_/_, _≤_};
+ghost use Prim.Native.Nat.{_+_, _<_, _≤_};
 ghost use mathlib.Core.Path.{_≡_};
-ghost use Rattle.loes.specs.Limits.{maxWidth};
+ghost use mathlib.Core.List.{[], _∷_};
+ghost use lib.ListN.{length};
+ghost use Rattle.loes.specs.Entry.{count};
 ghost use Rattle.loes.specs.Read.{entryIn};
 ghost use Rattle.loes.specs.Cursor as spec;
-ghost use Rattle.cursor.specs.Steps.{cursorOf, steppedOf};
 ghost use Rattle.bits.specs.Tables.{Tallies};
 ghost use Rattle.encoding.specs.Opened.{Opens};
+ghost use Rattle.cursor.specs.Steps.{cursorOf, steppedOf};
+ghost use Rattle.printing.specs.Text.{decimal, named, hexDigit, hex, numbersLine, memberLine, refusedLine, keyBytesAt, maxLine, Puts};
+ghost use Rattle.printing.specs.Pages.{Stands, PutsNext, Fills, Full};
 use bits::MemberIndex;
 use cursor::Cursor;
-use cursor::Step;
 use cursor::Stepped;
 use encoding::Checked;
 use encoding::Encoding;
 use libc::STDIN_FILENO;
 use libc::STDOUT_FILENO;
 
-// Room for the longest line: an index, a space, a key of 32 bytes and a line feed.
+// No line is longer: an index, a space, a key of 32 bytes and a line feed.
 const LINE: usize = 96;
 
 const KEY_BYTES: usize = Encoding::MAX_WIDTH / 8;
@@ -25,90 +28,114 @@ const LINE_FEED: u8 = b'\n';
 
 const SPACE: u8 = b' ';
 
-// ---- Text put behind what is there; what does not fit is dropped
-fn put(text: &mut [u8], at: usize, b: u8) -> usize {
-    if at < text.len() {
-        text[at] = b;
-        return at + 1;
-    }
-    at
+// ---- Text put into a buffer at a place, where it has room; each returns where it ends
+fn put(text: &mut [u8], at: usize, b: u8) -> usize
+    requires { ⌜ at < length (now text) ⌝ }
+    ensures { λ r. ⌜ Puts at (b ∷ []) (now (text .entry)) r (now (text .exit)) ⌝ }
+{
+    text[at] = b;
+    at + 1
 }
 
-fn put_text(text: &mut [u8], at: usize, s: &[u8]) -> usize {
-    let mut end = at;
+fn put_text(text: &mut [u8], at: usize, s: &[u8]) -> usize
+    requires { ⌜ at + length (now s) ≤ length (now text) ⌝ }
+    ensures { λ r. ⌜ Puts at (now (s .entry)) (now (text .entry)) r (now (text .exit)) ⌝ }
+{
     let mut i: usize = 0;
     while i < s.len() {
-        end = put(text, end, s[i]);
+        text[at + i] = s[i];
         i += 1;
     }
-    end
+    at + i
 }
 
-fn put_number(text: &mut [u8], at: usize, n: usize) -> usize {
+fn put_number(text: &mut [u8], at: usize, n: usize) -> usize
+    requires { ⌜ at + length (decimal n) ≤ length (now text) ⌝ }
+    ensures { λ r. ⌜ Puts at (decimal n) (now (text .entry)) r (now (text .exit)) ⌝ }
+{
     let mut digits = [0u8; 20];
     let k = io::decimal(n as u64, &mut digits);
     put_text(text, at, &digits[..k])
 }
 
-// The last digit of a number in upper-case hexadecimal.
-fn glyph(x: u8) -> u8 {
-    let d = x % 16;
+// A digit in upper-case hexadecimal.
+fn glyph(d: u8) -> u8
+    requires { ⌜ d < 16 ⌝ }
+    ensures { λ r. ⌜ r ≡ hexDigit d ⌝ }
+{
     if d < 10 { b'0' + d } else { b'A' + (d - 10) }
 }
 
-pub fn put_key(text: &mut [u8], at: usize, key: &[u8]) -> usize {
+// The two digits of a byte.
+fn put_byte(text: &mut [u8], at: usize, b: u8) -> usize
+    requires { ⌜ at + 2 ≤ length (now text) ⌝ }
+    ensures { λ r. ⌜ Puts at (hex (b ∷ [])) (now (text .entry)) r (now (text .exit)) ⌝ }
+{
+    let end = put(text, at, glyph(b / 16));
+    put(text, end, glyph(b % 16))
+}
+
+// A key's bytes in upper-case hexadecimal.
+pub fn put_key(text: &mut [u8], at: usize, key: &[u8]) -> usize
+    requires { ⌜ at + length (hex (now key)) ≤ length (now text) ⌝ }
+    ensures { λ r. ⌜ Puts at (hex (now (key .entry))) (now (text .entry)) r (now (text .exit)) ⌝ }
+{
     let mut end = at;
     let mut i: usize = 0;
     while i < key.len() {
-        let b = key[i];
-        end = put(text, end, glyph(b / 16));
-        end = put(text, end, glyph(b));
+        end = put_byte(text, end, key[i]);
         i += 1;
     }
     end
 }
 
 // ---- Lines
+// A word and a number.
+fn put_named(text: &mut [u8], at: usize, word: &[u8], n: usize) -> usize
+    requires { ⌜ at + length (named (now word) n) ≤ length (now text) ⌝ }
+    ensures { λ r. ⌜ Puts at (named (now (word .entry)) n) (now (text .entry)) r (now (text .exit)) ⌝ }
+{
+    let end = put_text(text, at, word);
+    put_number(text, end, n)
+}
+
 // The numbers of an encoding: width, members and edge bits, in the words that document 01 prints.
-fn put_numbers(text: &mut [u8], at: usize, e: Encoding) -> usize {
-    let mut end = put_text(text, at, b"width ");
-    end = put_number(text, end, e.width);
-    end = put_text(text, end, b" tickets ");
-    end = put_number(text, end, e.count);
-    end = put_text(text, end, b" edges ");
-    end = put_number(text, end, e.bits);
+pub fn put_numbers(text: &mut [u8], at: usize, e: Encoding) -> usize
+    requires { ⌜ at + length (numbersLine (e .width) (e .count) (e .bits)) ≤ length (now text) ⌝ }
+    ensures { λ r. ⌜ Puts at (numbersLine (e .width) (e .count) (e .bits)) (now (text .entry)) r (now (text .exit)) ⌝ }
+{
+    let mut end = put_named(text, at, b"width ", e.width);
+    end = put_named(text, end, b" tickets ", e.count);
+    end = put_named(text, end, b" edges ", e.bits);
     put(text, end, LINE_FEED)
 }
 
-fn put_member(text: &mut [u8], at: usize, index: MemberIndex, key: &[u8]) -> usize {
+// A member's index and key.
+pub fn put_member(text: &mut [u8], at: usize, index: MemberIndex, key: &[u8]) -> usize
+    requires { ⌜ at + length (memberLine (index .0) (now key)) ≤ length (now text) ⌝ }
+    ensures { λ r. ⌜ Puts at (memberLine (index .0) (now (key .entry))) (now (text .entry)) r (now (text .exit)) ⌝ }
+{
     let mut end = put_number(text, at, index.0);
     end = put(text, end, SPACE);
     end = put_key(text, end, key);
     put(text, end, LINE_FEED)
 }
 
-fn put_refused(text: &mut [u8], at: usize, k: u8) -> usize {
-    let mut end = put_text(text, at, b"refused ");
-    end = put_number(text, end, k as usize);
+// The number of a refusal.
+pub fn put_refused(text: &mut [u8], at: usize, k: u8) -> usize
+    requires { ⌜ at + length (refusedLine k) ≤ length (now text) ⌝ }
+    ensures { λ r. ⌜ Puts at (refusedLine k) (now (text .entry)) r (now (text .exit)) ⌝ }
+{
+    let end = put_named(text, at, b"refused ", k as usize);
     put(text, end, LINE_FEED)
 }
 
-// ---- Writing
-pub fn flush(text: &[u8], n: usize) {
-    if n <= text.len() {
-        io::write_all(STDOUT_FILENO, &text[..n]);
-    }
-}
-
-// Where the next line goes: behind the last one, or at the front of what was written out.
-fn next_line(text: &[u8], at: usize) -> usize {
-    if at < text.len() {
-        if LINE <= text.len() - at {
-            return at;
-        }
-    }
-    flush(text, at);
-    0
+// ---- Pages of lines
+// How far a page has come: the cursor, the index of the member that it goes to next, and the bytes of text.
+pub struct Page {
+    pub cursor: Cursor,
+    pub index: MemberIndex,
+    pub length: usize,
 }
 
 // A step by value, over the step of a lent cursor.
@@ -124,39 +151,77 @@ fn moved(l: &[u8], t: &[u8], e: Encoding, c: Cursor, key: &mut [u8]) -> Stepped
     }
 }
 
-// How many bytes of a key a step wrote.
-fn key_bytes(answer: Step) -> usize
-    ensures { λ r. ⌜ r ≤ maxWidth / 8 ⌝ }
+// One more line: a step, which is not refused, and the line of the member it went to.
+fn put_next(l: &[u8], t: &[u8], e: Encoding, p: Page, text: &mut [u8]) -> Page
+    requires { ⌜ Opens (now l) e × Tallies (now t) × Stands (entryIn (now l)) p × (p .index .0 < e .count) × (p .length + maxLine ≤ length (now text)) ⌝ }
+    ensures { λ r. ⌜ PutsNext (entryIn (now (l .entry))) p (now (text .entry)) r (now (text .exit)) ⌝ }
 {
-    match answer {
-        Step::Refused(_) => 0,
-        Step::Wrote(n) => {
-            if n <= KEY_BYTES {
-                return n;
-            }
-            0
-        }
+    let mut key = [0u8; KEY_BYTES];
+    let from = p.cursor;
+    let stepped = moved(l, t, e, from, &mut key);
+    let cursor = stepped.cursor;
+    let index = p.index;
+    let k = (e.width + 7) / 8;
+    let length = put_member(text, p.length, index, &key[..k]);
+    Page {
+        cursor,
+        index: MemberIndex(index.0 + 1),
+        length,
     }
+}
+
+// As many more lines as there are members and room for.
+pub fn fill(l: &[u8], t: &[u8], e: Encoding, from: Page, text: &mut [u8]) -> Page
+    requires { ⌜ Opens (now l) e × Tallies (now t) × Stands (entryIn (now l)) from × (from .length ≤ length (now text)) ⌝ }
+    ensures { λ r. ⌜ Fills (entryIn (now (l .entry))) from (now (text .entry)) r (now (text .exit)) × Full (entryIn (now (l .entry))) r (now (text .exit)) ⌝ }
+{
+    let mut p = from;
+    while p.index.0 < e.count {
+        if text.len() - p.length < LINE {
+            return p;
+        }
+        p = put_next(l, t, e, p, text);
+    }
+    p
+}
+
+// ---- Writing
+fn flush(text: &[u8], n: usize)
+    requires { ⌜ n ≤ length (now text) ⌝ }
+{
+    io::write_all(STDOUT_FILENO, &text[..n]);
+}
+
+fn print_numbers(e: Encoding) {
+    let mut text = [0u8; LINE];
+    let n = put_numbers(&mut text, 0, e);
+    flush(&text, n);
+}
+
+// Prints a page of lines, and returns one that goes on from it.
+fn print_page(l: &[u8], t: &[u8], e: Encoding, from: Page) -> Page
+    requires { ⌜ Opens (now l) e × Tallies (now t) × Stands (entryIn (now l)) from × (from .length ≡ 0) × (from .index .0 < e .count) ⌝ }
+    ensures { λ r. ⌜ Stands (entryIn (now (l .entry))) r × (r .length ≡ 0) × (from .index .0 < r .index .0) ⌝ }
+{
+    let mut text = io::buffer();
+    let p = fill(l, t, e, from, &mut text);
+    flush(&text, p.length);
+    let mut next = p;
+    next.length = 0;
+    next
 }
 
 fn print_members(l: &[u8], t: &[u8], e: Encoding)
     requires { ⌜ Opens (now l) e × Tallies (now t) ⌝ }
 {
-    let mut text = io::buffer();
-    let mut key = [0u8; KEY_BYTES];
-    let mut at = put_numbers(&mut text, 0, e);
-    let mut place = Cursor::before();
-    let mut i: usize = 0;
-    while i < e.count {
-        let stepped = cursor::advanced(l, t, e, place, &mut key);
-        place = stepped.cursor;
-        let answer = stepped.answer;
-        let k = key_bytes(answer);
-        at = next_line(&text, at);
-        at = put_member(&mut text, at, MemberIndex(i), &key[..k]);
-        i += 1;
+    let mut p = Page {
+        cursor: Cursor::before(),
+        index: MemberIndex(0),
+        length: 0,
+    };
+    while p.index.0 < e.count {
+        p = print_page(l, t, e, p);
     }
-    flush(&text, at);
 }
 
 fn print_refused(k: u8) {
@@ -170,7 +235,10 @@ fn print(l: &[u8]) {
     let t = bits::tallies();
     match encoding::check(l, &t) {
         Checked::Refused(k) => print_refused(k),
-        Checked::Opened(e) => print_members(l, &t, e),
+        Checked::Opened(e) => {
+            print_numbers(e);
+            print_members(l, &t, e);
+        }
     }
 }
 

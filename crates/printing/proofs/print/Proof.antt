@@ -22,11 +22,14 @@ print-refused-requires c κs = search needs
 enum-known-e : tie.Need-enum-known-e
 enum-known-e c = search needs
 
+print-numbers-requires : tie.Need-print-numbers-requires
+print-numbers-requires c κs = search needs
+
 slice-aggregate-print-members : tie.Need-slice-aggregate-print-members
 slice-aggregate-print-members c = search needs
 
 print-members-requires : tie.Need-print-members-requires
-print-members-requires c κs = (subst (Checks _) (c .before .before .e .given .1) (c .before .before .before .before .check .ensures), c .before .before .before .before .before .before .tallies .ensures)
+print-members-requires c κs = (subst (Checks _) (c .before .before .before .e .given .1) (c .before .before .before .before .before .check .ensures), c .before .before .before .before .before .before .before .tallies .ensures)
 
 returns : tie.Need-returns
 returns c = search needs
@@ -44,6 +47,7 @@ print-spec =
     enum-known-k
     print-refused-requires
     enum-known-e
+    print-numbers-requires
     slice-aggregate-print-members
     print-members-requires
     returns

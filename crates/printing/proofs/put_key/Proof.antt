@@ -1,33 +1,30 @@
-use Prim.Native.Nat.{_-_, _≤_}
-use mathlib.Core.Path.{_≡_}
+use lib.Seq.{take-all}
+use Rattle.printing.proofs.Putting.{puts-none, puts-then}
+use Rattle.printing.proofs.Digits.{hex-more, hex-room}
+use mathlib.Core.Path.{_≡_, refl}
+use Prim.Native.Nat.{_+_, _-_, _*_, _≤_}
+use native.Mathlib.Omega.{arith}
+use lib.ListN.{length, take}
+use Rattle.printing.specs.Text.{hex, Puts}
 use borrow.Author.Needs.{needs}
-use lib.ListN.{length}
 use Rattle.printing.proofs.put_key.Statement.{statement}
 use Rattle.printing.proofs.put_key.Tie as tie
 
 abbrev Inv-loop : tie.InvT-loop
-Inv-loop text₀ at key end₀ i₀ text end i = (i ≤ length key) × (length text ≡ length text₀)
+Inv-loop text₀ at key end₀ i₀ text end i = (i ≤ length key) × (length text ≡ length text₀) × Puts at (hex (take i key)) text₀ end text
 
 abbrev μ-loop : tie.MeasureT-loop
 μ-loop text₀ at key end₀ i₀ text end i = length key - i
 
 loop-holds : tie.Need-loop-holds Inv-loop μ-loop
-loop-holds c = search needs
+unfolding hex
+loop-holds c = let start : c .before .before .args .at ≤ length (c .before .before .args .text .now) = omega arith in (omega arith, refl, puts-none _ _ _ start refl)
 
-shared-slice-read-b : tie.Need-shared-slice-read-b Inv-loop μ-loop
-shared-slice-read-b c = search needs
+shared-slice-read-put-byte : tie.Need-shared-slice-read-put-byte Inv-loop μ-loop
+shared-slice-read-put-byte c = search needs
 
-glyph-requires : tie.Need-glyph-requires Inv-loop μ-loop
-glyph-requires c κs = search needs
-
-put-requires : tie.Need-put-requires Inv-loop μ-loop
-put-requires c κs = search needs
-
-glyph-requires-2 : tie.Need-glyph-requires-2 Inv-loop μ-loop
-glyph-requires-2 c κs = search needs
-
-put-requires-2 : tie.Need-put-requires-2 Inv-loop μ-loop
-put-requires-2 c κs = search needs
+put-byte-requires : tie.Need-put-byte-requires Inv-loop μ-loop
+put-byte-requires c κs = omega (arith, hex-room (c .before .before .before .loop .i) (c .before .before .before .before .before .before .args .key .now) (c .before .before .loop-test .taken), c .before .before .before .loop .inv .2 .ends)
 
 add-i : tie.Need-add-i Inv-loop μ-loop
 add-i c = search needs
@@ -36,13 +33,13 @@ loop-less : tie.Need-loop-less Inv-loop μ-loop
 loop-less c = search needs
 
 loop-again : tie.Need-loop-again Inv-loop μ-loop
-loop-again c = search needs
+loop-again c = (omega arith, search needs, rw (hex-more (c .before .before .before .before .before .before .loop .i) (c .before .before .before .before .before .before .before .before .before .args .key .now) (c .before .before .before .before .before .loop-test .taken)) (puts-then (c .before .before .before .before .before .before .loop .inv .2) (c .before .before .put-byte .ensures)))
 
 same-length : tie.Need-same-length Inv-loop μ-loop
 same-length c = search needs
 
 returns : tie.Need-returns Inv-loop μ-loop
-returns c = search needs
+returns c = let h : length (c .before .before .before .before .args .key .now) ≤ c .before .loop .i = omega arith in rw (take-all (c .before .loop .i) (c .before .before .before .before .args .key .now) h) at (c .before .loop .inv .2)
 
 pub put-key-spec : {M : Type 1} → statement M
 put-key-spec =
@@ -51,11 +48,8 @@ put-key-spec =
     Inv-loop
     μ-loop
     loop-holds
-    shared-slice-read-b
-    glyph-requires
-    put-requires
-    glyph-requires-2
-    put-requires-2
+    shared-slice-read-put-byte
+    put-byte-requires
     add-i
     loop-less
     loop-again

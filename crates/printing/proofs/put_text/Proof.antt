@@ -1,24 +1,31 @@
-use Prim.Native.Nat.{_-_, _≤_}
-use mathlib.Core.Path.{_≡_}
+use mathlib.Core.Path.{_≡_, refl, ap, _∙_}
+use Prim.Native.Nat.{_+_, _-_, _≤_}
+use native.Mathlib.Omega.{arith}
 use borrow.Author.Needs.{needs}
-use lib.ListN.{length}
+use lib.ListN.{length, take}
+use lib.Seq.{take-all}
+use Rattle.printing.specs.Text.{Puts}
+use Rattle.printing.proofs.Putting.{puts-none, puts-more}
 use Rattle.printing.proofs.put_text.Statement.{statement}
 use Rattle.printing.proofs.put_text.Tie as tie
 
 abbrev Inv-loop : tie.InvT-loop
-Inv-loop text₀ at s end₀ i₀ text end i = (i ≤ length s) × (length text ≡ length text₀)
+Inv-loop text₀ at s i₀ text i = (i ≤ length s) × (length text ≡ length text₀) × Puts at (take i s) text₀ (at + i) text
 
 abbrev μ-loop : tie.MeasureT-loop
-μ-loop text₀ at s end₀ i₀ text end i = length s - i
+μ-loop text₀ at s i₀ text i = length s - i
 
 loop-holds : tie.Need-loop-holds Inv-loop μ-loop
-loop-holds c = search needs
+loop-holds c = let start : c .args .at ≤ length (c .args .text .now) = omega arith in (omega arith, refl, puts-none _ _ _ start (omega arith))
 
-shared-slice-read-put : tie.Need-shared-slice-read-put Inv-loop μ-loop
-shared-slice-read-put c = search needs
+shared-slice-read-text : tie.Need-shared-slice-read-text Inv-loop μ-loop
+shared-slice-read-text c = search needs
 
-put-requires : tie.Need-put-requires Inv-loop μ-loop
-put-requires c κs = search needs
+add-text : tie.Need-add-text Inv-loop μ-loop
+add-text c = search needs
+
+slice-write-text : tie.Need-slice-write-text Inv-loop μ-loop
+slice-write-text c = search needs
 
 add-i : tie.Need-add-i Inv-loop μ-loop
 add-i c = search needs
@@ -27,13 +34,16 @@ loop-less : tie.Need-loop-less Inv-loop μ-loop
 loop-less c = search needs
 
 loop-again : tie.Need-loop-again Inv-loop μ-loop
-loop-again c = search needs
+loop-again c = (omega arith, search needs, puts-more _ _ _ _ _ (c .before .before .before .pre) (omega arith) (c .before .before .loop .inv .2))
+
+add-result : tie.Need-add-result Inv-loop μ-loop
+add-result c = search needs
 
 same-length : tie.Need-same-length Inv-loop μ-loop
 same-length c = search needs
 
 returns : tie.Need-returns Inv-loop μ-loop
-returns c = search needs
+returns c = let h : length (c .before .before .args .s .now) ≤ c .before .loop .i = omega arith in rw (take-all (c .before .loop .i) (c .before .before .args .s .now) h) at (c .before .loop .inv .2)
 
 pub put-text-spec : {M : Type 1} → statement M
 put-text-spec =
@@ -42,10 +52,12 @@ put-text-spec =
     Inv-loop
     μ-loop
     loop-holds
-    shared-slice-read-put
-    put-requires
+    shared-slice-read-text
+    add-text
+    slice-write-text
     add-i
     loop-less
     loop-again
+    add-result
     same-length
     returns)

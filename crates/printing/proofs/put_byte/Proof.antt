@@ -1,0 +1,29 @@
+use Rattle.printing.specs.Text.{hex}
+use Rattle.printing.proofs.Putting.{puts-then}
+use borrow.Author.Needs.{needs}
+use Rattle.printing.proofs.put_byte.Statement.{statement}
+use Rattle.printing.proofs.put_byte.Tie as tie
+
+glyph-requires : tie.Need-glyph-requires
+glyph-requires c κs = search needs
+
+put-requires : tie.Need-put-requires
+put-requires c κs = search needs
+
+glyph-requires-2 : tie.Need-glyph-requires-2
+glyph-requires-2 c κs = search needs
+
+put-requires-2 : tie.Need-put-requires-2
+put-requires-2 c κs = search needs
+
+same-length : tie.Need-same-length
+same-length c = search needs
+
+returns : tie.Need-returns
+unfolding hex
+returns c = rw (← c .before .before .before .before .before .before .before .before .glyph .ensures, ← c .before .before .before .glyph2 .ensures) (puts-then (c .before .before .before .before .before .before .before .put .ensures) (c .before .before .put2 .ensures))
+
+pub put-byte-spec : {M : Type 1} → statement M
+put-byte-spec =
+    tie.close
+    (tie.spec glyph-requires put-requires glyph-requires-2 put-requires-2 same-length returns)
