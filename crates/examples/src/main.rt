@@ -207,9 +207,10 @@ fn put_number(n: usize) {
 
 fn put_bytes(s: &[u8]) {
     let mut text = [SPACE; 2 * SHOWN + 1];
-    let n = printing::put_key(&mut text, 1, s);
+    let k = lesser(s.len(), SHOWN);
+    let n = printing::put_key(&mut text, 1, &s[..k]);
     if n > 1 {
-        printing::flush(&text, n);
+        put(&text[..n]);
     }
 }
 
