@@ -1,3 +1,4 @@
--- The text that is printed, and how far it has come.
+-- The text that is printed, and pages of it.
 pub mod Text
 pub mod Pages
+pub mod Examples

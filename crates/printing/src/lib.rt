@@ -9,7 +9,7 @@ ghost use Rattle.loes.specs.Cursor as spec;
 ghost use Rattle.bits.specs.Tables.{Tallies};
 ghost use Rattle.encoding.specs.Opened.{Opens};
 ghost use Rattle.cursor.specs.Steps.{cursorOf, steppedOf};
-ghost use Rattle.printing.specs.Text.{decimal, named, hexDigit, hex, numbersLine, memberLine, refusedLine, keyBytesAt, maxLine, Puts};
+ghost use Rattle.printing.specs.Text.{decimal, named, hexDigit, hex, numbersLine, memberLine, refusedLine, maxLine, Puts};
 ghost use Rattle.printing.specs.Pages.{Stands, PutsNext, Fills, Full};
 use bits::MemberIndex;
 use cursor::Cursor;
@@ -19,7 +19,7 @@ use encoding::Encoding;
 use libc::STDIN_FILENO;
 use libc::STDOUT_FILENO;
 
-// No line is longer: an index, a space, a key of 32 bytes and a line feed.
+// No line is longer: an index of 20 digits, a space, a key of 32 bytes and a line feed.
 const LINE: usize = 96;
 
 const KEY_BYTES: usize = Encoding::MAX_WIDTH / 8;
@@ -143,10 +143,10 @@ fn moved(l: &[u8], t: &[u8], e: Encoding, c: Cursor, key: &mut [u8]) -> Stepped
     requires { ⌜ Opens (now l) e × Tallies (now t) ⌝ }
     ensures { λ r. ⌜ steppedOf r (now (key .exit)) ≡ spec.advance (entryIn (now (l .entry))) (cursorOf c) (now (key .entry)) ⌝ }
 {
-    let mut place = c;
-    let answer = cursor::advance(l, t, e, &mut place, key);
+    let mut lent = c;
+    let answer = cursor::advance(l, t, e, &mut lent, key);
     Stepped {
-        cursor: place,
+        cursor: lent,
         answer,
     }
 }
@@ -211,8 +211,10 @@ fn print_page(l: &[u8], t: &[u8], e: Encoding, from: Page) -> Page
     next
 }
 
-fn print_members(l: &[u8], t: &[u8], e: Encoding)
+// Prints the lines of the members, page by page, and returns how many.
+fn print_members(l: &[u8], t: &[u8], e: Encoding) -> MemberIndex
     requires { ⌜ Opens (now l) e × Tallies (now t) ⌝ }
+    ensures { λ r. ⌜ r .0 ≡ count (entryIn (now (l .entry))) ⌝ }
 {
     let mut p = Page {
         cursor: Cursor::before(),
@@ -222,6 +224,7 @@ fn print_members(l: &[u8], t: &[u8], e: Encoding)
     while p.index.0 < e.count {
         p = print_page(l, t, e, p);
     }
+    p.index
 }
 
 fn print_refused(k: u8) {

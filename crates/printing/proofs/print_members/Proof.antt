@@ -30,7 +30,7 @@ loop-again : tie.Need-loop-again Inv-loop μ-loop
 loop-again c = (c .print-page .ensures .0, c .print-page .ensures .1)
 
 returns : tie.Need-returns Inv-loop μ-loop
-returns c = search needs
+returns c = omega (arith, c .before .before .before .before .before .before .before .before .pre .0 .count, c .before .before .before .before .loop .inv .0 .within)
 
 pub print-members-spec : {M : Type 1} → statement M
 print-members-spec =
