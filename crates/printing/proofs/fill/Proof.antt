@@ -1,7 +1,5 @@
-use mathlib.Core.Path.{_≡_, refl}
-use Prim.Native.Nat.{_+_, _-_, _≤_, _<_}
+use Prim.Native.Nat.{_-_}
 use native.Mathlib.Omega.{arith}
-use lib.ListN.{length}
 use Rattle.loes.specs.Read.{entryIn}
 use Rattle.printing.specs.Pages.{Fills}
 use Rattle.printing.proofs.Putting.{puts-length, puts-within}
@@ -25,10 +23,10 @@ same-length : tie.Need-same-length Inv-loop μ-loop
 same-length c = puts-length (c .before .before .before .before .before .loop .inv .puts)
 
 returns : tie.Need-returns Inv-loop μ-loop
-returns c = (c .before .before .before .before .before .loop .inv, λ h. omega (arith, puts-within (c .before .before .before .before .before .loop .inv .puts)))
+returns c = let w = c .before .before .before .before .before .loop .inv in (w, λ h. omega (arith, puts-within (w .puts)))
 
 put-next-requires : tie.Need-put-next-requires Inv-loop μ-loop
-put-next-requires c κs = let s = c .before .before .before .before .before .before .before .before .before .before in let w = puts-within (c .before .before .before .before .before .before .loop .inv .puts) in (s .pre .0, s .pre .1, c .before .before .before .before .before .before .loop .inv .stands, c .before .before .before .if1 .taken, omega (arith, w))
+put-next-requires c κs = let w = c .before .before .before .before .before .before in let s = w .before .before .before .before in let within = puts-within (w .loop .inv .puts) in (s .pre .0, s .pre .1, w .loop .inv .stands, c .before .before .before .if1 .taken, omega (arith, within))
 
 loop-less : tie.Need-loop-less Inv-loop μ-loop
 loop-less c = omega (arith, c .before .before .put-next .ensures .index)
@@ -40,7 +38,7 @@ same-length-2 : tie.Need-same-length-2 Inv-loop μ-loop
 same-length-2 c = puts-length (c .before .before .before .loop .inv .puts)
 
 returns-2 : tie.Need-returns-2 Inv-loop μ-loop
-returns-2 c = (c .before .before .before .loop .inv, λ h. absurd (omega (arith, h, c .before .before .before .before .before .before .before .pre .0 .count)))
+returns-2 c = let w = c .before .before .before in (w .loop .inv, λ h. absurd (omega (arith, h, w .before .before .before .before .pre .0 .count)))
 
 pub fill-spec : {M : Type 1} → statement M
 fill-spec =

@@ -1,6 +1,6 @@
 use mathlib.Core.Path.{sym}
-use lib.Seq.{length-take-le}
 use borrow.Author.Needs.{needs}
+use lib.Seq.{length-take-le}
 use Rattle.printing.proofs.flush.Statement.{statement}
 use Rattle.printing.proofs.flush.Tie as tie
 

@@ -1,9 +1,7 @@
-use mathlib.Core.Path.{_≡_}
-use Prim.Native.Nat.{_+_, _-_, _<_, _≤_}
 use native.Mathlib.Omega.{arith}
+use borrow.Author.Needs.{needs}
 use Rattle.loes.proofs.Tests.{lt-yes, lt-no}
 use Rattle.printing.specs.Text.{hexDigit}
-use borrow.Author.Needs.{needs}
 use Rattle.printing.proofs.glyph.Statement.{statement}
 use Rattle.printing.proofs.glyph.Tie as tie
 

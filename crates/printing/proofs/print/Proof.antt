@@ -1,6 +1,6 @@
 use mathlib.Core.Path.{subst}
-use Rattle.encoding.specs.Fields.{Checks}
 use borrow.Author.Needs.{needs}
+use Rattle.encoding.specs.Fields.{Checks}
 use Rattle.printing.proofs.print.Statement.{statement}
 use Rattle.printing.proofs.print.Tie as tie
 

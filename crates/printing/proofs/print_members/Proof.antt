@@ -1,10 +1,10 @@
 use mathlib.Core.Path.{_≡_, refl}
 use Prim.Native.Nat.{_-_}
 use native.Mathlib.Omega.{arith}
+use borrow.Author.Needs.{needs}
 use Rattle.loes.specs.Read.{entryIn}
 use Rattle.printing.specs.Pages.{Stands}
 use Rattle.printing.proofs.Paging.{first-stands}
-use borrow.Author.Needs.{needs}
 use Rattle.printing.proofs.print_members.Statement.{statement}
 use Rattle.printing.proofs.print_members.Tie as tie
 

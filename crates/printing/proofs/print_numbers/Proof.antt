@@ -1,7 +1,7 @@
 use Prim.Native.Nat.{_<_, _^_}
 use native.Mathlib.Omega.{arith}
-use Rattle.printing.proofs.Lines.{numbers-most}
 use borrow.Author.Needs.{needs}
+use Rattle.printing.proofs.Lines.{numbers-most}
 use Rattle.printing.proofs.print_numbers.Statement.{statement}
 use Rattle.printing.proofs.print_numbers.Tie as tie
 

@@ -1,11 +1,11 @@
 use mathlib.Core.Path.{refl}
 use Prim.Native.Nat.{_<_}
 use native.Mathlib.Omega.{arith}
+use borrow.Author.Needs.{needs}
+use denote.Ref.{now}
 use Rattle.loes.specs.Entry.{count}
 use Rattle.loes.specs.Read.{entryIn}
-use denote.Ref.{now}
 use Rattle.printing.proofs.Paging.{fills-some}
-use borrow.Author.Needs.{needs}
 use Rattle.printing.proofs.print_page.Statement.{statement}
 use Rattle.printing.proofs.print_page.Tie as tie
 

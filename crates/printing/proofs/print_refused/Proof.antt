@@ -1,6 +1,6 @@
 use native.Mathlib.Omega.{arith}
-use Rattle.printing.proofs.Lines.{refused-most}
 use borrow.Author.Needs.{needs}
+use Rattle.printing.proofs.Lines.{refused-most}
 use Rattle.printing.proofs.print_refused.Statement.{statement}
 use Rattle.printing.proofs.print_refused.Tie as tie
 

@@ -1,5 +1,5 @@
-use Rattle.printing.proofs.Putting.{puts-byte}
 use borrow.Author.Needs.{needs}
+use Rattle.printing.proofs.Putting.{puts-byte}
 use Rattle.printing.proofs.put.Statement.{statement}
 use Rattle.printing.proofs.put.Tie as tie
 

@@ -1,6 +1,6 @@
+use borrow.Author.Needs.{needs}
 use Rattle.printing.specs.Text.{hex}
 use Rattle.printing.proofs.Putting.{puts-then}
-use borrow.Author.Needs.{needs}
 use Rattle.printing.proofs.put_byte.Statement.{statement}
 use Rattle.printing.proofs.put_byte.Tie as tie
 
@@ -21,7 +21,10 @@ same-length c = search needs
 
 returns : tie.Need-returns
 unfolding hex
-returns c = rw (← c .before .before .before .before .before .before .before .before .glyph .ensures, ← c .before .before .before .glyph2 .ensures) (puts-then (c .before .before .before .before .before .before .before .put .ensures) (c .before .before .put2 .ensures))
+returns c =
+    let low = c .before .before in
+    let high = low .before .before .before .before .before in
+    rw (← high .before .glyph .ensures, ← low .before .glyph2 .ensures) (puts-then (high .put .ensures) (low .put2 .ensures))
 
 pub put-byte-spec : {M : Type 1} → statement M
 put-byte-spec =

@@ -1,5 +1,5 @@
 use mathlib.Core.Path.{_≡_, refl, sym, ap, _∙_}
-use Prim.Native.Nat.{ℕ, _+_, _/_, _≤_, _<_, _^_}
+use Prim.Native.Nat.{_+_, _/_, _≤_, _<_, _^_}
 use native.Mathlib.Omega.{arith}
 use borrow.Author.Needs.{needs}
 use denote.Ref.{now}
@@ -10,7 +10,7 @@ use Rattle.loes.specs.Entry.{Entry, keyBytes, count, Valid}
 use Rattle.loes.specs.Read.{entryIn}
 use Rattle.loes.proofs.Seven.{count-le}
 use Rattle.encoding.proofs.Opened.{opens-valid}
-use Rattle.printing.specs.Text.{memberLine, keyBytesAt, maxLine}
+use Rattle.printing.specs.Text.{keyBytesAt}
 use Rattle.printing.proofs.Lines.{member-most}
 use Rattle.printing.proofs.Paging.{key-most, next-key, next-stands}
 use Rattle.printing.proofs.put_next.Statement.{statement}

@@ -1,8 +1,7 @@
 use mathlib.Core.Path.{_∙_}
-use lib.ListN.{length}
 use native.Mathlib.Omega.{arith}
-use Rattle.printing.proofs.Digits.{digits-decimal}
 use borrow.Author.Needs.{needs}
+use Rattle.printing.proofs.Digits.{digits-decimal}
 use Rattle.printing.proofs.put_number.Statement.{statement}
 use Rattle.printing.proofs.put_number.Tie as tie
 
@@ -16,13 +15,13 @@ slice-aggregate-put-text : tie.Need-slice-aggregate-put-text
 slice-aggregate-put-text c = search needs
 
 put-text-requires : tie.Need-put-text-requires
-put-text-requires c κs = rw (c .before .before .decimal .ensures .1 .1 ∙ digits-decimal _ _ (c .before .before .decimal .ensures .1 .0)) (omega arith)
+put-text-requires c κs = let d = c .before .before .decimal in rw (d .ensures .1 .1 ∙ digits-decimal _ _ (d .ensures .1 .0)) (omega arith)
 
 same-length : tie.Need-same-length
 same-length c = search needs
 
 returns : tie.Need-returns
-returns c = rw (c .before .before .before .before .before .decimal .ensures .1 .1 ∙ digits-decimal _ _ (c .before .before .before .before .before .decimal .ensures .1 .0)) at (c .before .before .put-text .ensures)
+returns c = let put = c .before .before in let d = put .before .before .before .decimal in rw (d .ensures .1 .1 ∙ digits-decimal _ _ (d .ensures .1 .0)) at (put .put-text .ensures)
 
 pub put-number-spec : {M : Type 1} → statement M
 put-number-spec =

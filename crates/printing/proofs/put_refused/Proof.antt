@@ -1,8 +1,8 @@
+use native.Mathlib.Omega.{arith}
+use borrow.Author.Needs.{needs}
+use Rattle.printing.specs.Text.{refusedLine}
 use Rattle.printing.proofs.Putting.{puts-then}
 use Rattle.printing.proofs.Lines.{length-refused}
-use native.Mathlib.Omega.{arith}
-use Rattle.printing.specs.Text.{refusedLine}
-use borrow.Author.Needs.{needs}
 use Rattle.printing.proofs.put_refused.Statement.{statement}
 use Rattle.printing.proofs.put_refused.Tie as tie
 
@@ -20,7 +20,7 @@ same-length c = search needs
 
 returns : tie.Need-returns
 unfolding refusedLine
-returns c = puts-then (c .before .before .before .before .before .before .put-named .ensures) (c .before .before .put .ensures)
+returns c = let line = c .before .before in let number = line .before .before .before .before in puts-then (number .put-named .ensures) (line .put .ensures)
 
 pub put-refused-spec : {M : Type 1} → statement M
 put-refused-spec =

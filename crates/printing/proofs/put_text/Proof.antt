@@ -1,4 +1,4 @@
-use mathlib.Core.Path.{_≡_, refl, ap, _∙_}
+use mathlib.Core.Path.{_≡_, refl}
 use Prim.Native.Nat.{_+_, _-_, _≤_}
 use native.Mathlib.Omega.{arith}
 use borrow.Author.Needs.{needs}
@@ -43,7 +43,7 @@ same-length : tie.Need-same-length Inv-loop μ-loop
 same-length c = search needs
 
 returns : tie.Need-returns Inv-loop μ-loop
-returns c = let h : length (c .before .before .args .s .now) ≤ c .before .loop .i = omega arith in rw (take-all (c .before .loop .i) (c .before .before .args .s .now) h) at (c .before .loop .inv .2)
+returns c = let w = c .before in let s = w .before .args .s .now in let h : length s ≤ w .loop .i = omega arith in rw (take-all (w .loop .i) s h) at (w .loop .inv .2)
 
 pub put-text-spec : {M : Type 1} → statement M
 put-text-spec =
