@@ -13,14 +13,15 @@ ghost use Rattle.records.specs.Records.{recordOfCode, flagAt, flagsFrom, record
 ghost use Rattle.records.specs.Numbers.{recordsOf, eightOf, Short, overread, overwrite};
 ghost use Rattle.records.specs.Tables.{Spreads, Parted, Runs, TablesLent};
 ghost use Rattle.merge.specs.Union.{unionOf, Merged, QueueRoom, eitherRecord, childFlags, childrenOf, flagsIn, EightMerged, takenRecord, Queued, RecordMerged, BlockMerged, LevelMerged, LevelRoom};
+use bits::RecordIndex;
 use records::Run;
 
 // ---- One record
 
 // Record i of bytes if f is odd, else a record with no edge.
-fn record_if(f: u8, l: &[u8], i: usize) -> u8
-    requires { ⌜ (odd f ≡ true → i / 4 < length (now l)) ⌝ }
-    ensures { λ r. ⌜ (recordOfCode r ≡ takenRecord (odd f) (now (l .entry)) i) × (r < 4) ⌝ }
+fn record_if(f: u8, l: &[u8], i: RecordIndex) -> u8
+    requires { ⌜ (odd f ≡ true → i .0 / 4 < length (now l)) ⌝ }
+    ensures { λ r. ⌜ (recordOfCode r ≡ takenRecord (odd f) (now (l .entry)) (i .0)) × (r < 4) ⌝ }
 {
     if f % 2 == 1 {
         records::record_at(l, i)
@@ -38,9 +39,9 @@ fn either_record(x: u8, y: u8) -> u8
 }
 
 // The flags of the edges of two records are put behind the first n of the queue.
-fn push_children(q: &mut [u8], n: usize, x: u8, y: u8) -> usize
-    requires { ⌜ (n + 2 ≤ 4 * length (now q)) × (x < 4) × (y < 4) × (n < 4 * maxEdges) ⌝ }
-    ensures { λ r. ⌜ Queued n (childFlags (recordOfCode x) (recordOfCode y)) (now (q .entry)) (now (q .exit)) r ⌝ }
+fn push_children(q: &mut [u8], n: RecordIndex, x: u8, y: u8) -> RecordIndex
+    requires { ⌜ (n .0 + 2 ≤ 4 * length (now q)) × (x < 4) × (y < 4) × (n .0 < 4 * maxEdges) ⌝ }
+    ensures { λ r. ⌜ Queued (n .0) (childFlags (recordOfCode x) (recordOfCode y)) (now (q .entry)) (now (q .exit)) (r .0) ⌝ }
 {
     let t = records::push(q, n, x / 2 + y / 2 * 2);
     records::push(q, t, x % 2 + y % 2 * 2)
@@ -48,18 +49,18 @@ fn push_children(q: &mut [u8], n: usize, x: u8, y: u8) -> usize
 
 // Records taken of the first and of the second, and the queue's end.
 pub struct Positions {
-    pub a: usize,
-    pub b: usize,
-    pub tail: usize,
+    pub a: RecordIndex,
+    pub b: RecordIndex,
+    pub tail: RecordIndex,
 }
 
 // Record i of the union, in the place of its flag: the records taken as the flag says, their edges, and a flag for each.
-fn merge_record(a: &[u8], b: &[u8], q: &mut [u8], i: usize, at: Positions) -> Positions
-    requires { ⌜ (i < at .tail) × (at .tail + 2 ≤ 4 * length (now q)) × (length (now q) ≤ maxEdges) ⌝ }
-    requires { ⌜ (flagAt (now q) i .inFirst ≡ true → at .a < 4 * length (now a)) ⌝ }
-    requires { ⌜ (flagAt (now q) i .inSecond ≡ true → at .b < 4 * length (now b)) ⌝ }
-    requires { ⌜ at .a + at .b ≤ maxEdges ⌝ }
-    ensures { λ r. ⌜ RecordMerged (now (a .entry)) (now (b .entry)) (now (q .entry)) i (at .a) (at .b) (at .tail) (now (q .exit)) (r .a) (r .b) (r .tail) ⌝ }
+fn merge_record(a: &[u8], b: &[u8], q: &mut [u8], i: RecordIndex, at: Positions) -> Positions
+    requires { ⌜ (i .0 < at .tail .0) × (at .tail .0 + 2 ≤ 4 * length (now q)) × (length (now q) ≤ maxEdges) ⌝ }
+    requires { ⌜ (flagAt (now q) (i .0) .inFirst ≡ true → at .a .0 < 4 * length (now a)) ⌝ }
+    requires { ⌜ (flagAt (now q) (i .0) .inSecond ≡ true → at .b .0 < 4 * length (now b)) ⌝ }
+    requires { ⌜ at .a .0 + at .b .0 ≤ maxEdges ⌝ }
+    ensures { λ r. ⌜ RecordMerged (now (a .entry)) (now (b .entry)) (now (q .entry)) (i .0) (at .a .0) (at .b .0) (at .tail .0) (now (q .exit)) (r .a .0) (r .b .0) (r .tail .0) ⌝ }
 {
     let ia = at.a;
     let ib = at.b;
@@ -70,11 +71,11 @@ fn merge_record(a: &[u8], b: &[u8], q: &mut [u8], i: usize, at: Positions) -> Po
     let z = either_record(x, y);
     records::put_record(q, i, z);
     let end = push_children(q, tail, x, y);
-    let na = ia + (f % 2) as usize;
-    let nb = ib + (f / 2 % 2) as usize;
+    let na = ia.0 + (f % 2) as usize;
+    let nb = ib.0 + (f / 2 % 2) as usize;
     Positions {
-        a: na,
-        b: nb,
+        a: RecordIndex(na),
+        b: RecordIndex(nb),
         tail: end,
     }
 }
@@ -139,10 +140,10 @@ fn merge_block(
     j: usize,
     at: Positions,
 ) -> Positions
-    requires { ⌜ (4 * j + 8 ≤ at .tail) × (at .tail + overwrite ≤ 4 * length (now q)) × (length (now q) ≤ maxEdges) ⌝ }
-    requires { ⌜ (at .a + overread ≤ 4 * length (now a)) × (at .b + overread ≤ 4 * length (now b)) × (at .a + at .b ≤ maxEdges) ⌝ }
+    requires { ⌜ (4 * j + 8 ≤ at .tail .0) × (at .tail .0 + overwrite ≤ 4 * length (now q)) × (length (now q) ≤ maxEdges) ⌝ }
+    requires { ⌜ (at .a .0 + overread ≤ 4 * length (now a)) × (at .b .0 + overread ≤ 4 * length (now b)) × (at .a .0 + at .b .0 ≤ maxEdges) ⌝ }
     requires { ⌜ Spreads (now spreads) × Parted (now parts) × Runs (now runs) ⌝ }
-    ensures { λ r. ⌜ BlockMerged (now (a .entry)) (now (b .entry)) (now (q .entry)) j (at .a) (at .b) (at .tail) (now (q .exit)) (r .a) (r .b) (r .tail) ⌝ }
+    ensures { λ r. ⌜ BlockMerged (now (a .entry)) (now (b .entry)) (now (q .entry)) j (at .a .0) (at .b .0) (at .tail .0) (now (q .exit)) (r .a .0) (r .b .0) (r .tail .0) ⌝ }
 {
     let ia = at.a;
     let ib = at.b;
@@ -154,9 +155,9 @@ fn merge_block(
     q[j + 1] = e.low as u8;
     records::append(q, tail, e.flags);
     Positions {
-        a: ia + e.first,
-        b: ib + e.second,
-        tail: tail + e.flags.bits / 2,
+        a: RecordIndex(ia.0 + e.first),
+        b: RecordIndex(ib.0 + e.second),
+        tail: RecordIndex(tail.0 + e.flags.bits / 2),
     }
 }
 
@@ -164,21 +165,21 @@ fn merge_block(
 const BLOCK: usize = 8;
 
 // How far blocks may go: to the end if tables are lent.
-fn blocks_end(tables: usize, end: usize) -> usize
-    ensures { λ r. ⌜ (r ≤ end) × (0 < r → 0 < tables) ⌝ }
+fn blocks_end(tables: usize, end: RecordIndex) -> RecordIndex
+    ensures { λ r. ⌜ (r .0 ≤ end .0) × (0 < r .0 → 0 < tables) ⌝ }
 {
-    if tables > 0 { end } else { 0 }
+    if tables > 0 { end } else { RecordIndex(0) }
 }
 
 // Whether a block can be merged: the records from i up to `to` begin with those of two bytes.
-fn has_block(i: usize, to: usize) -> bool
-    requires { ⌜ i ≤ 4 * maxEdges ⌝ }
-    ensures { λ r. ⌜ (r ≡ true → (i % 4 ≡ 0) × (i + 8 ≤ to)) ⌝ }
+fn has_block(i: RecordIndex, to: RecordIndex) -> bool
+    requires { ⌜ i .0 ≤ 4 * maxEdges ⌝ }
+    ensures { λ r. ⌜ (r ≡ true → (i .0 % 4 ≡ 0) × (i .0 + 8 ≤ to .0)) ⌝ }
 {
-    if to < i + BLOCK {
+    if to.0 < i.0 + BLOCK {
         return false;
     }
-    i % 4 == 0
+    i.0 % 4 == 0
 }
 
 // A level of the union: its flags are in the queue from `from` on to the end.
@@ -189,23 +190,23 @@ fn merge_level(
     parts: &[u32],
     runs: &[u16],
     q: &mut [u8],
-    from: usize,
+    from: RecordIndex,
     start: Positions,
 ) -> Positions
-    requires { ⌜ LevelRoom (now a) (now b) (now q) from (start .a) (start .b) (start .tail) (flagsFrom (now q) from (start .tail - from)) ⌝ }
+    requires { ⌜ LevelRoom (now a) (now b) (now q) (from .0) (start .a .0) (start .b .0) (start .tail .0) (flagsFrom (now q) (from .0) (start .tail .0 - from .0)) ⌝ }
     requires { ⌜ TablesLent (now spreads) (now parts) (now runs) ⌝ }
-    ensures { λ r. ⌜ LevelMerged (now (a .entry)) (now (b .entry)) (now (q .entry)) from (start .a) (start .b) (start .tail) (start .tail - from) (now (q .exit)) (r .a) (r .b) (r .tail) ⌝ }
+    ensures { λ r. ⌜ LevelMerged (now (a .entry)) (now (b .entry)) (now (q .entry)) (from .0) (start .a .0) (start .b .0) (start .tail .0) (start .tail .0 - from .0) (now (q .exit)) (r .a .0) (r .b .0) (r .tail .0) ⌝ }
 {
-    let end = start.tail;
-    let to = blocks_end(spreads.len(), end);
+    let end = start.tail.0;
+    let to = blocks_end(spreads.len(), start.tail);
     let mut at = start;
-    let mut i = from;
+    let mut i = from.0;
     while i < end {
-        if has_block(i, to) {
+        if has_block(RecordIndex(i), to) {
             at = merge_block(a, b, spreads, parts, runs, q, i / 4, at);
             i += BLOCK;
         } else {
-            at = merge_record(a, b, q, i, at);
+            at = merge_record(a, b, q, RecordIndex(i), at);
             i += 1;
         }
     }
@@ -244,13 +245,13 @@ pub fn merge(
     ensures { λ r. ⌜ Merged (held m ba (now (a .entry))) (held m bb (now (b .entry))) (now (q .entry)) (now (q .exit)) (r .edges) (r .members) ⌝ }
 {
     let c = root_flag(ba) + root_flag(bb) * 2;
-    let t = records::push(q, 0, c);
+    let t = records::push(q, RecordIndex(0), c);
     let mut at = Positions {
-        a: 0,
-        b: 0,
+        a: RecordIndex(0),
+        b: RecordIndex(0),
         tail: t,
     };
-    let mut from = 0;
+    let mut from = RecordIndex(0);
     let mut d = 0;
     while d < m {
         let end = at.tail;
@@ -258,8 +259,8 @@ pub fn merge(
         from = end;
         d += 1;
     }
-    let n = at.tail - from;
-    let edges = 2 * from;
+    let n = at.tail.0 - from.0;
+    let edges = 2 * from.0;
     Joined { edges, members: n }
 }
 
@@ -283,6 +284,6 @@ pub fn unite(
 {
     let u = merge(m, a, ba, b, bb, spreads, parts, runs, q);
     let k = u.edges;
-    records::seal(q, k / 2);
+    records::seal(q, RecordIndex(k / 2));
     k
 }

@@ -8,6 +8,7 @@ ghost use Rattle.loes.specs.Edges.{Record};
 ghost use Rattle.records.specs.Records.{recordOfCode, codeIn, recordAt, recordsAt, flagOfRecord, recordOfFlag, firstCount, secondCount, withRecord, Put, Pushed, Sealed};
 ghost use Rattle.records.specs.Numbers.{recordsOf, bitsOf, eightOf, Short, Appended};
 ghost use Rattle.records.specs.Tables.{spread, keptBy, eitherFlags, Spreads, Parted, Runs};
+use bits::RecordIndex;
 
 // ---- Records in bytes, as numbers 2·onZero + onOne
 
@@ -20,11 +21,11 @@ pub fn record_in(x: u8, k: usize) -> u8
 }
 
 // Record i of bytes.
-pub fn record_at(l: &[u8], i: usize) -> u8
-    requires { ⌜ i / 4 < length (now l) ⌝ }
-    ensures { λ r. ⌜ (recordOfCode r ≡ recordAt (now (l .entry)) i) × (r < 4) ⌝ }
+pub fn record_at(l: &[u8], i: RecordIndex) -> u8
+    requires { ⌜ i .0 / 4 < length (now l) ⌝ }
+    ensures { λ r. ⌜ (recordOfCode r ≡ recordAt (now (l .entry)) (i .0)) × (r < 4) ⌝ }
 {
-    record_in(l[i / 4], i % 4)
+    record_in(l[i.0 / 4], i.0 % 4)
 }
 
 // A byte with its record k set to z.
@@ -37,32 +38,32 @@ fn with_record(old: u8, k: usize, z: u8) -> u8
 }
 
 // Record i of bytes is set to z.
-pub fn put_record(out: &mut [u8], i: usize, z: u8)
-    requires { ⌜ (i / 4 < length (now out)) × (z < 4) ⌝ }
-    ensures { λ _. ⌜ Put i z (now (out .entry)) (now (out .exit)) ⌝ }
+pub fn put_record(out: &mut [u8], i: RecordIndex, z: u8)
+    requires { ⌜ (i .0 / 4 < length (now out)) × (z < 4) ⌝ }
+    ensures { λ _. ⌜ Put (i .0) z (now (out .entry)) (now (out .exit)) ⌝ }
 {
-    let at = i / 4;
+    let at = i.0 / 4;
     let old = out[at];
-    out[at] = with_record(old, i % 4, z);
+    out[at] = with_record(old, i.0 % 4, z);
 }
 
 // Record z is put behind the first n, which grow by it if it has an edge.
-pub fn push(out: &mut [u8], n: usize, z: u8) -> usize
-    requires { ⌜ (n < 4 * length (now out)) × (z < 4) × (n ≤ 4 * maxEdges) ⌝ }
-    ensures { λ r. ⌜ Pushed n z (now (out .entry)) (now (out .exit)) r ⌝ }
+pub fn push(out: &mut [u8], n: RecordIndex, z: u8) -> RecordIndex
+    requires { ⌜ (n .0 < 4 * length (now out)) × (z < 4) × (n .0 ≤ 4 * maxEdges) ⌝ }
+    ensures { λ r. ⌜ Pushed (n .0) z (now (out .entry)) (now (out .exit)) (r .0) ⌝ }
 {
     put_record(out, n, z);
-    if z > 0 { n + 1 } else { n }
+    if z > 0 { RecordIndex(n.0 + 1) } else { n }
 }
 
 // The records behind the first k, up to the end of their byte, are cleared.
-pub fn seal(out: &mut [u8], k: usize)
-    requires { ⌜ (k ≤ 4 * length (now out)) × (k ≤ 4 * maxEdges) ⌝ }
-    ensures { λ _. ⌜ Sealed k (now (out .entry)) (now (out .exit)) ⌝ }
+pub fn seal(out: &mut [u8], k: RecordIndex)
+    requires { ⌜ (k .0 ≤ 4 * length (now out)) × (k .0 ≤ 4 * maxEdges) ⌝ }
+    ensures { λ _. ⌜ Sealed (k .0) (now (out .entry)) (now (out .exit)) ⌝ }
 {
-    let mut i = k;
+    let mut i = k.0;
     while i % 4 > 0 {
-        put_record(out, i, 0);
+        put_record(out, RecordIndex(i), 0);
         i += 1;
     }
 }
@@ -77,16 +78,16 @@ pub fn wide(x: u8) -> usize
 }
 
 // Eight records from record i on, in the upper bits of a word.
-pub fn window(l: &[u8], i: usize) -> usize
-    requires { ⌜ i / 4 + 3 < length (now l) ⌝ }
-    ensures { λ r. ⌜ eightOf r ≡ recordsAt (now (l .entry)) i 8 ⌝ }
+pub fn window(l: &[u8], i: RecordIndex) -> usize
+    requires { ⌜ i .0 / 4 + 3 < length (now l) ⌝ }
+    ensures { λ r. ⌜ eightOf r ≡ recordsAt (now (l .entry)) (i .0) 8 ⌝ }
 {
-    let at = i / 4;
+    let at = i.0 / 4;
     let x = wide(l[at]) * 16777216
         + wide(l[at + 1]) * 65536
         + wide(l[at + 2]) * 256
         + wide(l[at + 3]);
-    x << (32 + 2 * (i % 4))
+    x << (32 + 2 * (i.0 % 4))
 }
 
 // Four records behind the first n of such eight.
@@ -117,13 +118,13 @@ pub fn run_and(h: Run, g: Run) -> Run
 }
 
 // A run put behind the first k records. Eight bytes are written, which is one store: what is behind the run is cleared.
-pub fn append(out: &mut [u8], k: usize, r: Run)
-    requires { ⌜ (k / 4 + 7 < length (now out)) × Short 16 (r .records) (r .bits) ⌝ }
-    ensures { λ _. ⌜ Appended k (r .bits / 2) (r .records) (now (out .entry)) (now (out .exit)) ⌝ }
+pub fn append(out: &mut [u8], k: RecordIndex, r: Run)
+    requires { ⌜ (k .0 / 4 + 7 < length (now out)) × Short 16 (r .records) (r .bits) ⌝ }
+    ensures { λ _. ⌜ Appended (k .0) (r .bits / 2) (r .records) (now (out .entry)) (now (out .exit)) ⌝ }
 {
-    let at = k / 4;
+    let at = k.0 / 4;
     let n = r.bits;
-    let p = 2 * (k % 4);
+    let p = 2 * (k.0 % 4);
     let old = wide(out[at]);
     let w = ((old >> (8 - p)) << n) + r.records;
     let v = (w * 2) << (63 - p - n);

@@ -16,6 +16,7 @@ ghost use Rattle.records.specs.Numbers.{recordsOf, bitsOf, Short, overread};
 ghost use Rattle.records.specs.Tables.{spread, byEdge, keptBy, Spreads, Parted, Runs, TablesLent};
 ghost use Rattle.merge.specs.Union.{QueueRoom};
 ghost use Rattle.restrict.specs.Restriction.{restricted, differenceOf, flagMask, Flagged, Restricted, keptAt, maskedAt, childCount, Entries, RecordMarked, MarkRoom, Marked, BlockCompacted, Compacted};
+use bits::RecordIndex;
 use records::Run;
 
 // ---- Restrict
@@ -36,30 +37,34 @@ fn is_flag(x: u8, w: u8) -> u8
 }
 
 // 1 if entry j is kept: a record with an edge left, or a member whose flag is w.
-fn entry(q: &[u8], r: usize, w: u8, j: usize) -> u8
-    requires { ⌜ j < 4 * length (now q) ⌝ }
-    ensures { λ k. ⌜ (k ≡ bit (keptAt w (now (q .entry)) r j)) × (k ≤ 1) ⌝ }
+fn entry(q: &[u8], r: RecordIndex, w: u8, j: RecordIndex) -> u8
+    requires { ⌜ j .0 < 4 * length (now q) ⌝ }
+    ensures { λ k. ⌜ (k ≡ bit (keptAt w (now (q .entry)) (r .0) (j .0))) × (k ≤ 1) ⌝ }
 {
     let x = records::record_at(q, j);
-    if j < r { has_edge(x) } else { is_flag(x, w) }
+    if j.0 < r.0 {
+        has_edge(x)
+    } else {
+        is_flag(x, w)
+    }
 }
 
 // The same if f is odd, else 0.
-fn entry_if(f: u8, q: &[u8], r: usize, w: u8, j: usize) -> u8
-    requires { ⌜ (odd f ≡ true → j < 4 * length (now q)) ⌝ }
-    ensures { λ k. ⌜ (k ≡ bit (odd f && keptAt w (now (q .entry)) r j)) × (k ≤ 1) ⌝ }
+fn entry_if(f: u8, q: &[u8], r: RecordIndex, w: u8, j: RecordIndex) -> u8
+    requires { ⌜ (odd f ≡ true → j .0 < 4 * length (now q)) ⌝ }
+    ensures { λ k. ⌜ (k ≡ bit (odd f && keptAt w (now (q .entry)) (r .0) (j .0))) × (k ≤ 1) ⌝ }
 {
     if f % 2 == 1 { entry(q, r, w, j) } else { 0 }
 }
 
 // Record i of q: record x less the edges that are not kept, whose entries are from c on.
-fn mark_record(q: &mut [u8], r: usize, w: u8, x: u8, i: usize, c: usize)
-    requires { ⌜ (c + x / 2 + x % 2 ≤ 4 * length (now q)) × (x < 4) × (i < 4 * length (now q)) × (length (now q) ≤ maxEdges) ⌝ }
-    ensures { λ _. ⌜ RecordMarked w (now (q .entry)) r x i c (now (q .exit)) ⌝ }
+fn mark_record(q: &mut [u8], r: RecordIndex, w: u8, x: u8, i: RecordIndex, c: RecordIndex)
+    requires { ⌜ (c .0 + x / 2 + x % 2 ≤ 4 * length (now q)) × (x < 4) × (i .0 < 4 * length (now q)) × (length (now q) ≤ maxEdges) ⌝ }
+    ensures { λ _. ⌜ RecordMarked w (now (q .entry)) (r .0) x (i .0) (c .0) (now (q .exit)) ⌝ }
 {
     let z = (x / 2) as usize;
     let a = entry_if(x / 2, q, r, w, c);
-    let b = entry_if(x, q, r, w, c + z);
+    let b = entry_if(x, q, r, w, RecordIndex(c.0 + z));
     records::put_record(q, i, a * 2 + b);
 }
 
@@ -82,10 +87,10 @@ fn mark_half(spreads: &[u8], parts: &[u32], w: usize, x: usize, v: usize) -> usi
 }
 
 // The four records of a byte of edges, less the edges whose entries, from d on, fail test w.
-fn mark_byte(q: &[u8], spreads: &[u8], parts: &[u32], w: usize, x: u8, d: usize) -> usize
-    requires { ⌜ (w < 4) × (d / 4 + 3 < length (now q)) × (d ≤ 4 * maxEdges) ⌝ }
+fn mark_byte(q: &[u8], spreads: &[u8], parts: &[u32], w: usize, x: u8, d: RecordIndex) -> usize
+    requires { ⌜ (w < 4) × (d .0 / 4 + 3 < length (now q)) × (d .0 ≤ 4 * maxEdges) ⌝ }
     requires { ⌜ Spreads (now spreads) × Parted (now parts) ⌝ }
-    ensures { λ z. ⌜ (recordsOf 4 z ≡ maskedAt (λ m. keptBy w (recordAt (now (q .entry)) m)) d (recordsOf 4 x)) × (z < 256) ⌝ }
+    ensures { λ z. ⌜ (recordsOf 4 z ≡ maskedAt (λ m. keptBy w (recordAt (now (q .entry)) m)) (d .0) (recordsOf 4 x)) × (z < 256) ⌝ }
 {
     let v = records::window(q, d);
     let n = edges_in(parts, x / 16);
@@ -110,18 +115,18 @@ fn mark_byte(q: &[u8], spreads: &[u8], parts: &[u32], w: usize, x: u8, d: usize)
 const BY_EDGE: usize = 0;
 
 // The test of entry d: of a member, that its flag is w.
-fn test_at(d: usize, r: usize, w: u8) -> usize
-    ensures { λ t. ⌜ (t ≡ cond (ltb d r) byEdge w) ⌝ }
+fn test_at(d: RecordIndex, r: RecordIndex, w: u8) -> usize
+    ensures { λ t. ⌜ (t ≡ cond (ltb (d .0) (r .0)) byEdge w) ⌝ }
 {
-    if d < r { BY_EDGE } else { w as usize }
+    if d.0 < r.0 { BY_EDGE } else { w as usize }
 }
 
 // Whether a byte of k edges can be marked whole: the first i records end with its four, the k entries before c stand behind them, all of
 // them records, or members, and there are the bytes that are read.
-fn has_mark(w: u8, r: usize, i: usize, k: usize, c: usize, l: usize) -> bool
-    ensures { λ t. ⌜ (t ≡ true → MarkRoom w r i k c l) ⌝ }
+fn has_mark(w: u8, r: RecordIndex, i: RecordIndex, k: usize, c: RecordIndex, l: usize) -> bool
+    ensures { λ t. ⌜ (t ≡ true → MarkRoom w (r .0) (i .0) k (c .0) l) ⌝ }
 {
-    if i % 4 > 0 {
+    if i.0 % 4 > 0 {
         return false;
     }
     if w == 0 {
@@ -130,15 +135,15 @@ fn has_mark(w: u8, r: usize, i: usize, k: usize, c: usize, l: usize) -> bool
     if w > 3 {
         return false;
     }
-    if c < k {
+    if c.0 < k {
         return false;
     }
-    let d = c - k;
-    if d < i {
+    let d = c.0 - k;
+    if d < i.0 {
         return false;
     }
-    if d < r {
-        if r < c {
+    if d < r.0 {
+        if r.0 < c.0 {
             return false;
         }
     }
@@ -146,27 +151,27 @@ fn has_mark(w: u8, r: usize, i: usize, k: usize, c: usize, l: usize) -> bool
 }
 
 // The first r records of q less the edges under which no member has flag w, from the last to the first, in their place: by bytes where it can be.
-fn mark_bytes(spreads: &[u8], parts: &[u32], q: &mut [u8], r: usize, n: usize, w: u8)
-    requires { ⌜ (r + n ≤ 4 * length (now q)) × (length (now q) ≤ maxEdges) × Entries (now q) r n ⌝ }
+fn mark_bytes(spreads: &[u8], parts: &[u32], q: &mut [u8], r: RecordIndex, n: usize, w: u8)
+    requires { ⌜ (r .0 + n ≤ 4 * length (now q)) × (length (now q) ≤ maxEdges) × Entries (now q) (r .0) n ⌝ }
     requires { ⌜ Spreads (now spreads) × Parted (now parts) ⌝ }
-    ensures { λ _. ⌜ Marked w (now (q .entry)) r n (now (q .exit)) ⌝ }
+    ensures { λ _. ⌜ Marked w (now (q .entry)) (r .0) n (now (q .exit)) ⌝ }
 {
-    let mut i = r;
-    let mut c = r + n;
+    let mut i = r.0;
+    let mut c = r.0 + n;
     while i > 0 {
         let j = i - 1;
         let y = q[j / 4];
         let k = edges_in(parts, y);
-        if has_mark(w, r, i, k, c, q.len()) {
-            let d = c - k;
+        if has_mark(w, r, RecordIndex(i), k, RecordIndex(c), q.len()) {
+            let d = RecordIndex(c - k);
             let z = mark_byte(q, spreads, parts, test_at(d, r, w), y, d);
             q[j / 4] = z as u8;
-            c = d;
+            c = d.0;
             i -= 4;
         } else {
-            let x = records::record_at(q, j);
+            let x = records::record_at(q, RecordIndex(j));
             let d = c - (x / 2 + x % 2) as usize;
-            mark_record(q, r, w, x, j, d);
+            mark_record(q, r, w, x, RecordIndex(j), RecordIndex(d));
             c = d;
             i = j;
         }
@@ -174,39 +179,39 @@ fn mark_bytes(spreads: &[u8], parts: &[u32], q: &mut [u8], r: usize, n: usize, w
 }
 
 // The byte of record i - 1, if there is one.
-fn byte_before(q: &[u8], i: usize) -> u8
-    requires { ⌜ (0 < i → (i - 1) / 4 < length (now q)) ⌝ }
-    ensures { λ y. ⌜ (0 < i → y ≡ getD (now (q .entry)) ((i - 1) / 4) 0) ⌝ }
+fn byte_before(q: &[u8], i: RecordIndex) -> u8
+    requires { ⌜ (0 < i .0 → (i .0 - 1) / 4 < length (now q)) ⌝ }
+    ensures { λ y. ⌜ (0 < i .0 → y ≡ getD (now (q .entry)) ((i .0 - 1) / 4) 0) ⌝ }
 {
-    if i > 0 { q[(i - 1) / 4] } else { 0 }
+    if i.0 > 0 { q[(i.0 - 1) / 4] } else { 0 }
 }
 
 // The same record by record. Each byte is read before it is changed, so that no record waits for the one behind it.
-fn mark_singly(q: &mut [u8], r: usize, n: usize, w: u8)
-    requires { ⌜ (r + n ≤ 4 * length (now q)) × (length (now q) ≤ maxEdges) × Entries (now q) r n ⌝ }
-    ensures { λ _. ⌜ Marked w (now (q .entry)) r n (now (q .exit)) ⌝ }
+fn mark_singly(q: &mut [u8], r: RecordIndex, n: usize, w: u8)
+    requires { ⌜ (r .0 + n ≤ 4 * length (now q)) × (length (now q) ≤ maxEdges) × Entries (now q) (r .0) n ⌝ }
+    ensures { λ _. ⌜ Marked w (now (q .entry)) (r .0) n (now (q .exit)) ⌝ }
 {
-    let mut i = r;
-    let mut c = r + n;
-    let mut y = byte_before(q, i);
+    let mut i = r.0;
+    let mut c = r.0 + n;
+    let mut y = byte_before(q, r);
     while i > 0 {
         let j = i - 1;
         let x = records::record_in(y, j % 4);
         let d = c - (x / 2 + x % 2) as usize;
-        mark_record(q, r, w, x, j, d);
+        mark_record(q, r, w, x, RecordIndex(j), RecordIndex(d));
         c = d;
         i = j;
         if j % 4 == 0 {
-            y = byte_before(q, j);
+            y = byte_before(q, RecordIndex(j));
         }
     }
 }
 
 // The same, by bytes if tables are lent.
-fn mark(spreads: &[u8], parts: &[u32], q: &mut [u8], r: usize, n: usize, w: u8)
-    requires { ⌜ (r + n ≤ 4 * length (now q)) × (length (now q) ≤ maxEdges) × Entries (now q) r n ⌝ }
+fn mark(spreads: &[u8], parts: &[u32], q: &mut [u8], r: RecordIndex, n: usize, w: u8)
+    requires { ⌜ (r .0 + n ≤ 4 * length (now q)) × (length (now q) ≤ maxEdges) × Entries (now q) (r .0) n ⌝ }
     requires { ⌜ (0 < length (now spreads) → Spreads (now spreads) × Parted (now parts)) ⌝ }
-    ensures { λ _. ⌜ Marked w (now (q .entry)) r n (now (q .exit)) ⌝ }
+    ensures { λ _. ⌜ Marked w (now (q .entry)) (r .0) n (now (q .exit)) ⌝ }
 {
     if spreads.len() > 0 {
         mark_bytes(spreads, parts, q, r, n, w);
@@ -238,48 +243,62 @@ fn bytes_run(parts: &[u32], runs: &[u16], x: u8, y: u8) -> Run
 const MOVED: usize = 16;
 
 // Whether the records of four bytes can be moved: tables are lent, the next n records begin with theirs, and there is room behind the first k of l bytes.
-fn has_run(tables: usize, i: usize, n: usize, k: usize, l: usize) -> bool
-    ensures { λ r. ⌜ (r ≡ true → (0 < tables) × (i % 4 ≡ 0) × (16 ≤ n) × (k / 4 + 7 < l)) ⌝ }
+fn has_run(tables: usize, i: RecordIndex, n: usize, k: RecordIndex, l: usize) -> bool
+    ensures { λ r. ⌜ (r ≡ true → (0 < tables) × (i .0 % 4 ≡ 0) × (16 ≤ n) × (k .0 / 4 + 7 < l)) ⌝ }
 {
     if n < MOVED {
         return false;
     }
-    if i % 4 > 0 {
+    if i.0 % 4 > 0 {
         return false;
     }
     if tables == 0 {
         return false;
     }
-    k / 4 + 7 < l
+    k.0 / 4 + 7 < l
 }
 
 // The records of the four bytes from byte j of q on that have an edge, put behind the first k.
-fn compact_block(q: &[u8], parts: &[u32], runs: &[u16], j: usize, out: &mut [u8], k: usize) -> usize
-    requires { ⌜ (j + 3 < length (now q)) × (k / 4 + 7 < length (now out)) × (k ≤ 4 * maxEdges) × Parted (now parts) × Runs (now runs) ⌝ }
-    ensures { λ r. ⌜ BlockCompacted (now (q .entry)) j (now (out .entry)) k (now (out .exit)) r ⌝ }
+fn compact_block(
+    q: &[u8],
+    parts: &[u32],
+    runs: &[u16],
+    j: usize,
+    out: &mut [u8],
+    k: RecordIndex,
+) -> RecordIndex
+    requires { ⌜ (j + 3 < length (now q)) × (k .0 / 4 + 7 < length (now out)) × (k .0 ≤ 4 * maxEdges) × Parted (now parts) × Runs (now runs) ⌝ }
+    ensures { λ r. ⌜ BlockCompacted (now (q .entry)) j (now (out .entry)) (k .0) (now (out .exit)) (r .0) ⌝ }
 {
     let h = bytes_run(parts, runs, q[j], q[j + 1]);
     let g = bytes_run(parts, runs, q[j + 2], q[j + 3]);
     let c = records::run_and(h, g);
     let n = c.bits / 2;
     records::append(out, k, c);
-    k + n
+    RecordIndex(k.0 + n)
 }
 
 // The first r records of q that have an edge, moved together.
-fn compact(q: &[u8], spreads: &[u8], parts: &[u32], runs: &[u16], r: usize, out: &mut [u8]) -> usize
-    requires { ⌜ (r ≤ 4 * length (now q)) × (r ≤ 4 * maxEdges) × (length (filter hasEdge (recordsTo (now q) r)) < 4 * length (now out)) ⌝ }
+fn compact(
+    q: &[u8],
+    spreads: &[u8],
+    parts: &[u32],
+    runs: &[u16],
+    r: RecordIndex,
+    out: &mut [u8],
+) -> RecordIndex
+    requires { ⌜ (r .0 ≤ 4 * length (now q)) × (r .0 ≤ 4 * maxEdges) × (length (filter hasEdge (recordsTo (now q) (r .0))) < 4 * length (now out)) ⌝ }
     requires { ⌜ TablesLent (now spreads) (now parts) (now runs) ⌝ }
-    ensures { λ k. ⌜ Compacted (now (q .entry)) r (now (out .entry)) (now (out .exit)) k ⌝ }
+    ensures { λ k. ⌜ Compacted (now (q .entry)) (r .0) (now (out .entry)) (now (out .exit)) (k .0) ⌝ }
 {
     let mut i = 0;
-    let mut k = 0;
-    while i < r {
-        if has_run(spreads.len(), i, r - i, k, out.len()) {
+    let mut k = RecordIndex(0);
+    while i < r.0 {
+        if has_run(spreads.len(), RecordIndex(i), r.0 - i, k, out.len()) {
             k = compact_block(q, parts, runs, i / 4, out, k);
             i += MOVED;
         } else {
-            let x = records::record_at(q, i);
+            let x = records::record_at(q, RecordIndex(i));
             k = records::push(out, k, x);
             i += 1;
         }
@@ -288,14 +307,21 @@ fn compact(q: &[u8], spreads: &[u8], parts: &[u32], runs: &[u16], r: usize, out:
 }
 
 // The same, and what is left of their last byte cleared: how many bits they are.
-fn collect(q: &[u8], spreads: &[u8], parts: &[u32], runs: &[u16], r: usize, out: &mut [u8]) -> usize
-    requires { ⌜ (r ≤ 4 * length (now q)) × (r ≤ 4 * maxEdges) × (length (filter hasEdge (recordsTo (now q) r)) < 4 * length (now out)) ⌝ }
+fn collect(
+    q: &[u8],
+    spreads: &[u8],
+    parts: &[u32],
+    runs: &[u16],
+    r: RecordIndex,
+    out: &mut [u8],
+) -> usize
+    requires { ⌜ (r .0 ≤ 4 * length (now q)) × (r .0 ≤ 4 * maxEdges) × (length (filter hasEdge (recordsTo (now q) (r .0))) < 4 * length (now out)) ⌝ }
     requires { ⌜ TablesLent (now spreads) (now parts) (now runs) ⌝ }
-    ensures { λ b. ⌜ Written (recordBits (filter hasEdge (recordsTo (now (q .entry)) r))) (now (out .entry)) (now (out .exit)) b × (b ≤ 2 * r) ⌝ }
+    ensures { λ b. ⌜ Written (recordBits (filter hasEdge (recordsTo (now (q .entry)) (r .0)))) (now (out .entry)) (now (out .exit)) b × (b ≤ 2 * r .0) ⌝ }
 {
     let k = compact(q, spreads, parts, runs, r, out);
     records::seal(out, k);
-    2 * k
+    2 * k.0
 }
 
 // The edges of the members whose flag is w, of a set of m bits whose b edges stand in front of q, and the flags of its n members behind them.
@@ -315,7 +341,7 @@ pub fn restrict(
     requires { ⌜ edgeCount (restricted (flagMask w (now q) (b / 2)) (held m b (now q))) < 8 * length (now out) ⌝ }
     ensures { λ k. ⌜ Restricted (flagMask w (now (q .entry)) (b / 2)) (held m b (now (q .entry))) (b / 2) (now (q .entry)) (now (out .entry)) (now (q .exit)) (now (out .exit)) k ⌝ }
 {
-    let r = b / 2;
+    let r = RecordIndex(b / 2);
     mark(spreads, parts, q, r, n, w);
     collect(q, spreads, parts, runs, r, out)
 }
@@ -345,7 +371,7 @@ pub fn subtract(
     ensures { λ k. ⌜ Written (edgesOf (differenceOf (held m ba (now (a .entry))) (held m bb (now (b .entry))))) (now (out .entry)) (now (out .exit)) k × (k ≤ ba) ⌝ }
 {
     let u = merge::merge(m, a, ba, b, bb, spreads, parts, runs, q);
-    let r = u.edges / 2;
+    let r = RecordIndex(u.edges / 2);
     let n = u.members;
     mark(spreads, parts, q, r, n, FIRST_ONLY);
     collect(q, spreads, parts, runs, r, out)

@@ -13,10 +13,10 @@ use Rattle.merge.proofs.merge.Statement.{statement}
 use Rattle.merge.proofs.merge.Tie as tie
 
 abbrev Inv-loop : tie.InvT-loop
-Inv-loop m a ba b bb spreads parts runs q₀ c t at₀ from₀ d₀ q at from d = Done m (setIn m ba a) (setIn m bb b) q₀ d from (at .a) (at .b) (at .tail) q × (d ≤ m)
+Inv-loop m a ba b bb spreads parts runs q₀ c at₀ from₀ d₀ q at from d = Done m (setIn m ba a) (setIn m bb b) q₀ d (from .0) (at .a .0) (at .b .0) (at .tail .0) q × (d ≤ m)
 
 abbrev μ-loop : tie.MeasureT-loop
-μ-loop m a ba b bb spreads parts runs q₀ c t at₀ from₀ d₀ q at from d = m - d
+μ-loop m a ba b bb spreads parts runs q₀ c at₀ from₀ d₀ q at from d = m - d
 
 abbrev start : tie.After-slice-known2 Inv-loop μ-loop → tie.Start Inv-loop μ-loop
 start c = c .before .before .before .before .before .before .before .before .before .before .before .before
@@ -31,7 +31,7 @@ room l =
     let z = l .before .before .before .push .ensures .size in
     record { queue = omega (arith, w .queue, z); small = omega (arith, w .small, z) }
 
-few : (l : tie.At-loop Inv-loop μ-loop) → l .loop .from ≤ start (l .before) .args .ba / 2 + start (l .before) .args .bb / 2
+few : (l : tie.At-loop Inv-loop μ-loop) → l .loop .from .0 ≤ start (l .before) .args .ba / 2 + start (l .before) .args .bb / 2
 few l =
     let s = start (l .before) in
     end-le (held-of (s .pre .0 .0)) (held-of (s .pre .1 .0 .0)) (l .loop .inv .0) (l .loop .inv .1)
@@ -60,15 +60,15 @@ loop-holds c =
 
 merge-level-requires : tie.Need-merge-level-requires Inv-loop μ-loop
 merge-level-requires c κs =
-    let l = c .before .before in
+    let l = c .before .before .before in
     let s = start (l .before) in
-    let t : l .loop .d < s .args .m = c .before .loop-test .taken in
+    let t : l .loop .d < s .args .m = c .before .before .loop-test .taken in
     (level-room (held-of (s .pre .0 .0)) (held-of (s .pre .1 .0 .0)) (l .loop .inv .0) t (room l) (omega (arith, s .pre .0 .0 .few, s .pre .1 .0 .0 .few)) (s .pre .0 .1) (s .pre .1 .0 .1), s .pre .1 .1 .0)
 
 add-d : tie.Need-add-d Inv-loop μ-loop
 add-d c =
-    let l = c .before .before .before .before .before in
-    record { fits = omega (arith, c .before .before .before .before .loop-test .taken, start (l .before) .fits) }
+    let l = c .before .before .before .before .before .before in
+    record { fits = omega (arith, c .before .before .before .before .before .loop-test .taken, start (l .before) .fits) }
 
 loop-less : tie.Need-loop-less Inv-loop μ-loop
 loop-less c = omega arith
@@ -76,30 +76,30 @@ loop-less c = omega arith
 loop-again : tie.Need-loop-again Inv-loop μ-loop
 loop-again c =
     let w = c .before .before in
-    let l = w .before .before .before in
+    let l = w .before .before .before .before in
     let s = start (l .before) in
-    let t : l .loop .d < s .args .m = w .before .before .loop-test .taken in
+    let t : l .loop .d < s .args .m = w .before .before .before .loop-test .taken in
     (done-more (held-of (s .pre .0 .0)) (held-of (s .pre .1 .0 .0)) (l .loop .inv .0) t (w .merge-level .ensures), omega arith)
 
 sub-n : tie.Need-sub-n Inv-loop μ-loop
-sub-n c = c .before .before .loop .inv .0 .last
+sub-n c = c .before .before .before .loop .inv .0 .last
 
 mul-edges : tie.Need-mul-edges Inv-loop μ-loop
 mul-edges c =
-    let l = c .before .before in
+    let l = c .before .before .before .before in
     let s = start (l .before) in
     record { fits = omega (arith, few l, s .pre .0 .0 .few, s .pre .1 .0 .0 .few) }
 
 same-length : tie.Need-same-length Inv-loop μ-loop
 same-length c =
-    let l = c .before .before in
+    let l = c .before .before .before .before in
     l .loop .inv .0 .size ∙ l .before .before .before .push .ensures .size
 
 returns : tie.Need-returns Inv-loop μ-loop
 returns c =
-    let l = c .before .before in
+    let l = c .before .before .before .before in
     let s = start (l .before) in
-    let e : l .loop .d ≡ s .args .m = omega (arith, c .before .loop-test .left, l .loop .inv .1) in
+    let e : l .loop .d ≡ s .args .m = omega (arith, c .before .before .before .loop-test .left, l .loop .inv .1) in
     merged-done (s .pre .0 .0) (s .pre .1 .0 .0) (s .pre .1 .1 .1) (rw e at (l .loop .inv .0)) (l .before .before .before .push .ensures .size)
 
 pub merge-spec : {M : Type 1} → statement M

@@ -8,6 +8,9 @@ use borrow.Author.Needs.{needs}
 use Rattle.merge.proofs.merge_block.Statement.{statement}
 use Rattle.merge.proofs.merge_block.Tie as tie
 
+abbrev start : tie.After-merge-eight → tie.Start
+start e = e .before .before .before .before .before .before .before .before .before .before .before .before .before .before
+
 window-requires : tie.Need-window-requires
 window-requires c κs = search needs
 
@@ -36,37 +39,37 @@ cast-q-2 : tie.Need-cast-q-2
 cast-q-2 c = search needs
 
 add-q : tie.Need-add-q
-add-q c = search needs
+add-q c = record { fits = omega (arith, start (c .before .before) .pre .0) }
 
 slice-write-q-2 : tie.Need-slice-write-q-2
-slice-write-q-2 c = let s = c .before .before .before .before .before .before .before .before .before .before .before .before .before in simp length-set (omega (arith, s .pre .0))
+slice-write-q-2 c = let s = start (c .before .before) in simp length-set (omega (arith, s .pre .0))
 
 append-requires : tie.Need-append-requires
 append-requires c κs =
-    let s = c .before .before .before .before .before .before .before .before .before .before .before .before .before .before in
-    (simp length-set (omega (arith, s .pre .0)), c .before .before .before .merge-eight .ensures .short)
+    let e = c .before .before .before in
+    (simp length-set (omega (arith, start e .pre .0)), e .merge-eight .ensures .short)
 
 add-t17 : tie.Need-add-t17
-add-t17 c = let e = c .before .before .before .before .before .before .before in record { fits = omega (arith, e .before .before .before .before .before .before .before .before .before .before .before .pre .1 .0 .2, e .merge-eight .ensures .few .0) }
+add-t17 c = let e = c .before .before .before .before .before .before .before .before in record { fits = omega (arith, start e .pre .1 .0 .2, e .merge-eight .ensures .few .0) }
 
-add-t25 : tie.Need-add-t25
-add-t25 c = let e = c .before .before .before .before .before .before .before .before in record { fits = omega (arith, e .before .before .before .before .before .before .before .before .before .before .before .pre .1 .0 .2, e .merge-eight .ensures .few .1) }
+add-t26 : tie.Need-add-t26
+add-t26 c = let e = c .before .before .before .before .before .before .before .before .before .before in record { fits = omega (arith, start e .pre .1 .0 .2, e .merge-eight .ensures .few .1) }
 
-add-t27 : tie.Need-add-t27
-add-t27 c = let e = c .before .before .before .before .before .before .before .before .before in record { fits = omega (arith, e .before .before .before .before .before .before .before .before .before .before .before .pre .0, e .merge-eight .ensures .short .1) }
+add-t29 : tie.Need-add-t29
+add-t29 c = let e = c .before .before .before .before .before .before .before .before .before .before .before .before in record { fits = omega (arith, start e .pre .0, e .merge-eight .ensures .short .1) }
 
 same-length : tie.Need-same-length
-same-length c = let s = c .before .before .before .before .before .before .before .before .before .before .before .before .before .before .before .before .before .before .before .before in c .before .before .before .before .before .append .ensures .size ∙ length-set (set (now (s .args .q)) (s .args .j) _) (s .args .j + 1) _ ∙ length-set (now (s .args .q)) (s .args .j) _
+same-length c = let w = c .before .before .before .before .before .before .before .before in let s = start (w .before .before .before .before) in w .append .ensures .size ∙ length-set (set (now (s .args .q)) (s .args .j) _) (s .args .j + 1) _ ∙ length-set (now (s .args .q)) (s .args .j) _
 
 returns : tie.Need-returns
 returns c =
-    let w = c .before .before .before .before .before in
+    let w = c .before .before .before .before .before .before .before .before in
     let e = w .before .before .before .before in
     let y = e .before .before .before in
     let x = y .before in
-    let s = x .before .before .before .before .before .before .before in
+    let s = start e in
     let v = e .merge-eight .result in
-    block-ok (now (s .args .a)) (now (s .args .b)) (now (s .args .q)) (w .append .last .0) (s .args .j) (s .args .at .a) (s .args .at .b) (s .args .at .tail) _ _
+    block-ok (now (s .args .a)) (now (s .args .b)) (now (s .args .q)) (w .append .last .0) (s .args .j) (s .args .at .a .0) (s .args .at .b .0) (s .args .at .tail .0) _ _
     (x .window .result) (y .window2 .result) (v .high) (v .low) (v .flags .records) (v .flags .bits) (v .first) (v .second) (omega (arith, s .pre .0)) (s .pre .0 .0) refl refl
     (x .window .ensures) (y .window2 .ensures) (e .merge-eight .ensures) (w .append .ensures)
 
@@ -87,7 +90,7 @@ merge-block-spec =
     slice-write-q-2
     append-requires
     add-t17
-    add-t25
-    add-t27
+    add-t26
+    add-t29
     same-length
     returns)

@@ -37,7 +37,7 @@ returns c =
     let s = c .before .before .before .before .before .before .before .before .before in
     let one = c .before .before .before .before .before .before in
     let two = c .before .before in
-    push-both (s .args .q .now) (one .push .last .0) (two .push2 .last .0) (s .args .n) (one .push .result) (two .push2 .result) (s .args .x) (s .args .y) (s .pre .1)
+    push-both (s .args .q .now) (one .push .last .0) (two .push2 .last .0) (s .args .n .0) (one .push .result .0) (two .push2 .result .0) (s .args .x) (s .args .y) (s .pre .1)
     (one .push .ensures) (two .push2 .ensures)
 
 pub push-children-spec : {M : Type 1} → statement M

@@ -8,10 +8,13 @@ use borrow.Author.Needs.{needs}
 use Rattle.records.proofs.append.Statement.{statement}
 use Rattle.records.proofs.append.Tie as tie
 
-value : (c : tie.After-struct-known) → Spliced (c .before .wide .result) (c .before .before .before .before .args .k % 4) (c .before .before .before .before .args .r .bits) (c .before .before .before .before .args .r .records)
+abbrev start : tie.After-struct-known3 → tie.Start
+start c = c .before .before .before .before .before .before
+
+value : (c : tie.After-struct-known3) → Spliced (c .before .wide .result) (start c .args .k .0 % 4) (start c .args .r .bits) (start c .args .r .records)
 value c =
-    let s = c .before .before .before .before in
-    spliced (c .before .wide .result) (s .args .k) (s .args .r .bits) (s .args .r .records) (c .before .wide .ensures .1) (s .pre .1)
+    let s = start c in
+    spliced (c .before .wide .result) (s .args .k .0) (s .args .r .bits) (s .args .r .records) (c .before .wide .ensures .1) (s .pre .1)
 
 mul-p : tie.Need-mul-p
 mul-p c = search needs
@@ -120,11 +123,11 @@ same-length c = simp length-set
 
 returns : tie.Need-returns
 returns c =
-    let s = c .before .before .before .before in
+    let s = start c in
     let b = s .args .r .bits in
     let f = s .pre .1 .2 in
-    put-run (now (s .args .out)) (s .args .k) (b / 2) (s .args .r .records) _ (s .pre .0) (omega (arith, s .pre .1 .1)) (rw f (s .pre .1 .0))
-    (value c .1 ∙ ap (λ y. (y / 2 ^ (2 * (4 - s .args .k % 4)) * 2 ^ (2 * (b / 2)) + s .args .r .records) * 2 ^ (2 * (32 - s .args .k % 4 - b / 2))) (c .before .wide .ensures .0))
+    put-run (now (s .args .out)) (s .args .k .0) (b / 2) (s .args .r .records) _ (s .pre .0) (omega (arith, s .pre .1 .1)) (rw f (s .pre .1 .0))
+    (value c .1 ∙ ap (λ y. (y / 2 ^ (2 * (4 - s .args .k .0 % 4)) * 2 ^ (2 * (b / 2)) + s .args .r .records) * 2 ^ (2 * (32 - s .args .k .0 % 4 - b / 2))) (c .before .wide .ensures .0))
 
 pub append-spec : {M : Type 1} → statement M
 append-spec =

@@ -17,8 +17,8 @@ same-length c = search needs
 
 returns : tie.Need-returns
 returns c =
-    let s = c .before .before .before in
-    put-ok (s .args .out .now) (s .args .i) (s .args .z) (c .with-record .result) (s .pre .0) (s .pre .1) (c .with-record .ensures)
+    let s = c .before .before .before .before .before in
+    put-ok (s .args .out .now) (s .args .i .0) (s .args .z) (c .with-record .result) (s .pre .0) (s .pre .1) (c .with-record .ensures)
 
 pub put-record-spec : {M : Type 1} → statement M
 put-record-spec =

@@ -13,8 +13,8 @@ record-in-requires c κs = search needs
 
 returns : tie.Need-returns
 returns c =
-    let s = c .before .before .before in
-    (ap recordOfCode (c .record-in .ensures .0) ∙ sym (code-at (s .args .l .now) (s .args .i)), c .record-in .ensures .1)
+    let s = c .before .before .before .before .before in
+    (ap recordOfCode (c .record-in .ensures .0) ∙ sym (code-at (s .args .l .now) (s .args .i .0)), c .record-in .ensures .1)
 
 pub record-at-spec : {M : Type 1} → statement M
 record-at-spec = tie.close (tie.spec shared-slice-read-record-in record-in-requires returns)

@@ -8,10 +8,10 @@ use Rattle.records.proofs.seal.Statement.{statement}
 use Rattle.records.proofs.seal.Tie as tie
 
 abbrev Inv-loop : tie.InvT-loop
-Inv-loop out₀ k i₀ out i = Cleared out₀ k i out × ((j : ℕ) → getD out j 0 < 256)
+Inv-loop out₀ k out i = Cleared out₀ k i out × ((j : ℕ) → getD out j 0 < 256)
 
 abbrev μ-loop : tie.MeasureT-loop
-μ-loop out₀ k i₀ out i = 4 * started 8 (2 * k) - i
+μ-loop out₀ k out i = 4 * started 8 (2 * k) - i
 
 abbrev start : tie.At-loop Inv-loop μ-loop → tie.Start Inv-loop μ-loop
 start l = l .before .before
@@ -21,20 +21,20 @@ unfolding started
 inside k l h = omega arith
 
 loop-holds : tie.Need-loop-holds Inv-loop μ-loop
-loop-holds c = (cleared-none (now (c .before .args .out)) (c .before .args .k), λ j. omega (arith, c .slice-known .given j))
+loop-holds c = (cleared-none (now (c .before .args .out)) (c .before .args .k .0), λ j. omega (arith, c .slice-known .given j))
 
 put-record-requires : tie.Need-put-record-requires Inv-loop μ-loop
 put-record-requires c κs =
     let l = c .before .before in
     let s = start l in
     let t : 0 < l .loop .i % 4 = c .before .loop-test .taken in
-    (omega (arith, inside (s .args .k) (length (now (s .args .out))) (s .pre .0), l .loop .inv .0 .near, l .loop .inv .0 .size), omega arith)
+    (omega (arith, inside (s .args .k .0) (length (now (s .args .out))) (s .pre .0), l .loop .inv .0 .near, l .loop .inv .0 .size), omega arith)
 
 add-i : tie.Need-add-i Inv-loop μ-loop
 add-i c =
     let l = c .before .before .before .before .before in
     let s = start l in
-    record { fits = omega (arith, inside (s .args .k) (s .args .k) (omega arith), s .pre .1, l .loop .inv .0 .near) }
+    record { fits = omega (arith, inside (s .args .k .0) (s .args .k .0) (omega arith), s .pre .1, l .loop .inv .0 .near) }
 
 loop-less : tie.Need-loop-less Inv-loop μ-loop
 loop-less c =

@@ -66,11 +66,12 @@ shl-result c = search needs
 
 returns : tie.Need-returns
 returns c =
-    let w3 = c .before .before in
+    let w4 = c .before in
+    let w3 = w4 .before .before in
     let w2 = w3 .before .before in
     let w1 = w2 .before .before in
-    let s = w1 .before .before .before in
-    window-ok (now (s .args .l)) (s .args .i) (w1 .wide .result) (w2 .wide2 .result) (w3 .wide3 .result) (c .wide4 .result) (w1 .wide .ensures .0) (w2 .wide2 .ensures .0) (w3 .wide3 .ensures .0) (c .wide4 .ensures .0) (w2 .wide2 .ensures .1) (w3 .wide3 .ensures .1) (c .wide4 .ensures .1)
+    let s = w1 .before .before .before .before in
+    window-ok (now (s .args .l)) (s .args .i .0) (w1 .wide .result) (w2 .wide2 .result) (w3 .wide3 .result) (w4 .wide4 .result) (w1 .wide .ensures .0) (w2 .wide2 .ensures .0) (w3 .wide3 .ensures .0) (w4 .wide4 .ensures .0) (w2 .wide2 .ensures .1) (w3 .wide3 .ensures .1) (w4 .wide4 .ensures .1)
 
 pub window-spec : {M : Type 1} → statement M
 window-spec =
