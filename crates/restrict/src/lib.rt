@@ -291,10 +291,11 @@ fn compact(
     requires { ⌜ TablesLent (now spreads) (now parts) (now runs) ⌝ }
     ensures { λ k. ⌜ Compacted (now (q .entry)) (r .0) (now (out .entry)) (now (out .exit)) (k .0) ⌝ }
 {
+    let end = r.0;
     let mut i = 0;
     let mut k = RecordIndex(0);
-    while i < r.0 {
-        if has_run(spreads.len(), RecordIndex(i), r.0 - i, k, out.len()) {
+    while i < end {
+        if has_run(spreads.len(), RecordIndex(i), end - i, k, out.len()) {
             k = compact_block(q, parts, runs, i / 4, out, k);
             i += MOVED;
         } else {

@@ -7,7 +7,7 @@ sub-result : tie.Need-sub-result
 sub-result c = search needs
 
 shared-slice-read-result : tie.Need-shared-slice-read-result
-shared-slice-read-result c = c .before .before .pre (omega arith)
+shared-slice-read-result c = c .before .before .before .before .pre (omega arith)
 
 returns : tie.Need-returns
 returns c = search needs

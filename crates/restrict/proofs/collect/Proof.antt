@@ -20,7 +20,7 @@ seal-requires c κs =
 
 mul-result : tie.Need-mul-result
 mul-result c =
-    let k = c .before .before .before .before .before .before in
+    let k = c .before .before .before .before .before .before .before in
     record { fits = omega (arith, compact-less (k .compact .ensures), k .before .before .before .before .before .before .before .pre .0 .1) }
 
 same-length : tie.Need-same-length
@@ -28,9 +28,9 @@ same-length c = search needs
 
 returns : tie.Need-returns
 returns c =
-    let k = c .before .before .before .before .before .before in
+    let k = c .before .before .before .before .before .before .before in
     let v = k .compact .ensures in
-    (written (bits-recordsTo (k .compact .last .1 .1 .1 .1 .1 .0) (k .compact .result) ∙ ap recordBits (v .out)) (v .size) (c .before .before .seal .ensures), omega (arith, compact-less v))
+    (written (bits-recordsTo (k .compact .last .1 .1 .1 .1 .1 .0) (k .compact .result .0) ∙ ap recordBits (v .out)) (v .size) (c .before .before .before .seal .ensures), omega (arith, compact-less v))
 
 pub collect-spec : {M : Type 1} → statement M
 collect-spec = tie.close (tie.spec compact-requires seal-requires mul-result same-length returns)

@@ -10,10 +10,10 @@ use Rattle.restrict.proofs.compact.Statement.{statement}
 use Rattle.restrict.proofs.compact.Tie as tie
 
 abbrev Inv-loop : tie.InvT-loop
-Inv-loop q spreads parts runs r out₀ i₀ k₀ out i k = Compacted q i out₀ out k × (i ≤ r)
+Inv-loop q spreads parts runs out₀ end i₀ k₀ out i k = Compacted q i out₀ out (k .0) × (i ≤ end)
 
 abbrev μ-loop : tie.MeasureT-loop
-μ-loop q spreads parts runs r out₀ i₀ k₀ out i k = r - i
+μ-loop q spreads parts runs out₀ end i₀ k₀ out i k = end - i
 
 abbrev start : tie.At-loop Inv-loop μ-loop → tie.Start Inv-loop μ-loop
 start l = l .before .before .before .before .before .before
@@ -22,7 +22,7 @@ abbrev blockOf : tie.Then1 Inv-loop μ-loop → tie.At-loop Inv-loop μ-loop
 blockOf d = d .before .before .before
 
 room : (d : tie.Then1 Inv-loop μ-loop)
-    → (0 < length (now (start (blockOf d) .args .spreads))) × (blockOf d .loop .i % 4 ≡ 0) × (16 ≤ start (blockOf d) .args .r - blockOf d .loop .i) × (blockOf d .loop .k / 4 + 7 < length (blockOf d .loop .out))
+    → (0 < length (now (start (blockOf d) .args .spreads))) × (blockOf d .loop .i % 4 ≡ 0) × (16 ≤ start (blockOf d) .args .r .0 - blockOf d .loop .i) × (blockOf d .loop .k .0 / 4 + 7 < length (blockOf d .loop .out))
 room d = d .before .has-run .ensures (d .if1 .taken)
 
 loop-holds : tie.Need-loop-holds Inv-loop μ-loop
@@ -76,7 +76,7 @@ push-requires c κs =
     let l = x .before .before .before .before in
     let s = start l in
     let v = l .loop .inv .0 in (
-      omega (arith, compact-count v, filter-mono (now (s .args .q)) (l .loop .i) (s .args .r) (l .loop .inv .1), v .size, s .pre .0 .2),
+      omega (arith, compact-count v, filter-mono (now (s .args .q)) (l .loop .i) (s .args .r .0) (l .loop .inv .1), v .size, s .pre .0 .2),
       x .record-at .ensures .1,
       omega (arith, compact-less v, s .pre .0 .1, l .loop .inv .1),
     )
@@ -102,7 +102,7 @@ same-length c = c .before .loop .inv .0 .size
 returns : tie.Need-returns Inv-loop μ-loop
 returns c =
     let l = c .before in
-    let e : l .loop .i ≡ start l .args .r = omega (arith, c .loop-test .left, l .loop .inv .1) in
+    let e : l .loop .i ≡ start l .args .r .0 = omega (arith, c .loop-test .left, l .loop .inv .1) in
     rw e at (l .loop .inv .0)
 
 pub compact-spec : {M : Type 1} → statement M

@@ -45,15 +45,15 @@ run-and-requires c κs = search needs
 append-requires : tie.Need-append-requires
 append-requires c κs = search needs
 
-add-result : tie.Need-add-result
-add-result c = search needs
+add-t13 : tie.Need-add-t13
+add-t13 c = search needs
 
 same-length : tie.Need-same-length
 same-length c = search needs
 
 returns : tie.Need-returns
 returns c =
-    let g = c .before .before in
+    let g = c .before .before .before in
     let u = g .before .before .before in
     let b = u .before in
     let a = b .before .before .before in
@@ -65,7 +65,7 @@ returns c =
     ∙ ap₂ (λ x y. x ++ y) (a .bytes-run .ensures .0) (b .bytes-run2 .ensures .0)
     ∙ sym (filter-append hasEdge (recordsOf 4 (getD q j 0) ++ recordsOf 4 (getD q (j + 1) 0)) (recordsOf 4 (getD q (j + 2) 0) ++ recordsOf 4 (getD q (j + 3) 0)))
     ∙ ap (filter hasEdge) (sym (four-bytes q j)) in
-    record { records = g .append .ensures .records ∙ ap (λ t. recordsTo (now (s .args .out)) (s .args .k) ++ t) e; size = g .append .ensures .size }
+    record { records = g .append .ensures .records ∙ ap (λ t. recordsTo (now (s .args .out)) (s .args .k .0) ++ t) e; size = g .append .ensures .size }
 
 pub compact-block-spec : {M : Type 1} → statement M
 compact-block-spec =
@@ -82,6 +82,6 @@ compact-block-spec =
     bytes-run-requires-2
     run-and-requires
     append-requires
-    add-result
+    add-t13
     same-length
     returns)

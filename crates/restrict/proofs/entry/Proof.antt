@@ -19,15 +19,15 @@ is-flag-requires c κs = search needs
 returns : tie.Need-returns
 unfolding keptAt
 returns c =
-    let s = c .before .before .before .before in
-    (c .has-edge .ensures .0 ∙ rw (lt-ltb (s .args .j) (s .args .r) (c .before .if1 .taken), c .before .before .record-at .ensures .0), c .has-edge .ensures .1)
+    let s = c .before .before .before .before .before .before in
+    (c .has-edge .ensures .0 ∙ rw (lt-ltb (s .args .j .0) (s .args .r .0) (c .before .if1 .taken), c .before .before .before .before .record-at .ensures .0), c .has-edge .ensures .1)
 
 returns-2 : tie.Need-returns-2
 unfolding keptAt
 returns-2 c =
-    let s = c .before .before .before .before in
-    let x = c .before .before .record-at in
-    (c .is-flag .ensures .0 ∙ rw (le-ltb (s .args .j) (s .args .r) (c .before .if1 .left), flag-code (x .result) (s .args .w) (now (s .args .q)) (s .args .j) (x .ensures .1) (x .ensures .0)), c .is-flag .ensures .1)
+    let s = c .before .before .before .before .before .before in
+    let x = c .before .before .before .before .record-at in
+    (c .is-flag .ensures .0 ∙ rw (le-ltb (s .args .j .0) (s .args .r .0) (c .before .if1 .left), flag-code (x .result) (s .args .w) (now (s .args .q)) (s .args .j .0) (x .ensures .1) (x .ensures .0)), c .is-flag .ensures .1)
 
 pub entry-spec : {M : Type 1} → statement M
 entry-spec =

@@ -34,7 +34,7 @@ returns-7 c =
       whole = omega arith;
       less = omega arith;
       behind = omega arith;
-      same = λ h. ⊎-elim (λ p. omega (arith, p .1 .left)) (λ p. absurd (omega (arith, p .left))) (c .if6 .came);
+      same = λ h. ⊎-elim (λ p. omega (arith, p .3 .left)) (λ p. absurd (omega (arith, p .left))) (c .if6 .came);
       queue = ltb-true _ _ e;
     }
 

@@ -13,19 +13,19 @@ use Rattle.restrict.proofs.mark_bytes.Statement.{statement}
 use Rattle.restrict.proofs.mark_bytes.Tie as tie
 
 abbrev Inv-loop : tie.InvT-loop
-Inv-loop spreads parts q₀ r n w i₀ c₀ q i c = Marking w q₀ r n i c q
+Inv-loop spreads parts q₀ r n w i₀ c₀ q i c = Marking w q₀ (r .0) n i c q
 
 abbrev μ-loop : tie.MeasureT-loop
 μ-loop spreads parts q₀ r n w i₀ c₀ q i c = i
 
 abbrev start : tie.At-loop Inv-loop μ-loop → tie.Start Inv-loop μ-loop
-start l = l .before .before .before .before
+start l = l .before .before .before .before .before
 
 abbrev loopOf : tie.After-record-at Inv-loop μ-loop → tie.At-loop Inv-loop μ-loop
 loopOf t = t .before .before .before .before .before .before .before
 
 at : (t : tie.After-record-at Inv-loop μ-loop)
-    → Marking (start (loopOf t) .args .w) (now (start (loopOf t) .args .q)) (start (loopOf t) .args .r) (start (loopOf t) .args .n)
+    → Marking (start (loopOf t) .args .w) (now (start (loopOf t) .args .q)) (start (loopOf t) .args .r .0) (start (loopOf t) .args .n)
     (suc (loopOf t .loop .i - 1)) (loopOf t .loop .c) (loopOf t .loop .q)
 at t =
     let i = t .before .before .before .before .before .before in
@@ -41,7 +41,7 @@ read t =
 abbrev blockOf : tie.Then1 Inv-loop μ-loop → tie.At-loop Inv-loop μ-loop
 blockOf d = d .before .before .before .before .before
 
-room : (d : tie.Then1 Inv-loop μ-loop) → MarkRoom (start (blockOf d) .args .w) (start (blockOf d) .args .r) (blockOf d .loop .i) (d .before .before .edges-in .result) (blockOf d .loop .c) (length (blockOf d .loop .q))
+room : (d : tie.Then1 Inv-loop μ-loop) → MarkRoom (start (blockOf d) .args .w) (start (blockOf d) .args .r .0) (blockOf d .loop .i) (d .before .before .edges-in .result) (blockOf d .loop .c) (length (blockOf d .loop .q))
 room d = d .before .has-mark .ensures (d .if1 .taken)
 
 place : (d : tie.Then1 Inv-loop μ-loop) → (blockOf d .loop .i - 1) / 4 < length (blockOf d .loop .q)
@@ -51,10 +51,10 @@ place d =
     omega (arith, i .loop-test .taken, l .loop .inv .low, l .loop .inv .size, start l .pre .0)
 
 add-c : tie.Need-add-c Inv-loop μ-loop
-add-c c = record { fits = omega (arith, c .before .before .before .pre .0) }
+add-c c = record { fits = omega (arith, c .before .before .before .before .pre .0) }
 
 loop-holds : tie.Need-loop-holds Inv-loop μ-loop
-loop-holds c = mark-none (c .before .before .before .pre .0 .2)
+loop-holds c = mark-none (c .before .before .before .before .pre .0 .2)
 
 sub-j : tie.Need-sub-j Inv-loop μ-loop
 sub-j c = omega arith
@@ -70,8 +70,8 @@ edges-in-requires c κs = start (c .before .before) .pre .1 .1
 has-mark-requires : tie.Need-has-mark-requires Inv-loop μ-loop
 has-mark-requires c κs = search needs
 
-sub-d : tie.Need-sub-d Inv-loop μ-loop
-sub-d c = room c .less
+sub-mark-byte : tie.Need-sub-mark-byte Inv-loop μ-loop
+sub-mark-byte c = room c .less
 
 test-at-requires : tie.Need-test-at-requires Inv-loop μ-loop
 test-at-requires c κs = search needs
@@ -82,7 +82,7 @@ mark-byte-requires c κs =
     let l = blockOf d in
     let s = start l in
     let m = room d in (
-      (test-small (c .test-at .result) (s .args .w) (ltb (l .loop .c - d .before .before .edges-in .result) (s .args .r)) (c .test-at .ensures) (m .flag .1), m .queue, omega (arith, mark-le (s .pre .0 .2) (l .loop .inv), s .pre .0)),
+      (test-small (c .test-at .result) (s .args .w) (ltb (l .loop .c - d .before .before .edges-in .result) (s .args .r .0)) (c .test-at .ensures) (m .flag .1), m .queue, omega (arith, mark-le (s .pre .0 .2) (l .loop .inv), s .pre .0)),
       s .pre .1,
     )
 
@@ -124,8 +124,8 @@ add-d c = search needs
 cast-d : tie.Need-cast-d Inv-loop μ-loop
 cast-d c = search needs
 
-sub-d-2 : tie.Need-sub-d-2 Inv-loop μ-loop
-sub-d-2 c =
+sub-d : tie.Need-sub-d Inv-loop μ-loop
+sub-d c =
     let x = c .record-at .ensures in
     down (start (loopOf c) .pre .0 .2) (at c) (x .1) (read c) .0
 
@@ -170,7 +170,7 @@ mark-bytes-spec =
     slice-read-y
     edges-in-requires
     has-mark-requires
-    sub-d
+    sub-mark-byte
     test-at-requires
     mark-byte-requires
     cast-q
@@ -181,7 +181,7 @@ mark-bytes-spec =
     record-at-requires
     add-d
     cast-d
-    sub-d-2
+    sub-d
     mark-record-requires
     loop-less-2
     loop-again-2

@@ -16,12 +16,12 @@ entry-if-requires c κs =
     let s = c .before .before in
     λ e. let g : s .args .x / 2 % 2 ≡ 1 = sym (bit-odd (s .args .x / 2)) ∙ ap bit e in omega (arith, s .pre .0)
 
-add-entry-if : tie.Need-add-entry-if
-add-entry-if c = search needs
+add-t15 : tie.Need-add-t15
+add-t15 c = search needs
 
 entry-if-requires-2 : tie.Need-entry-if-requires-2
 entry-if-requires-2 c κs =
-    let s = c .before .before .before .before in
+    let s = c .before .before .before .before .before in
     λ e. let g : s .args .x % 2 ≡ 1 = sym (bit-odd (s .args .x)) ∙ ap bit e in omega (arith, s .pre .0)
 
 mul-put-record : tie.Need-mul-put-record
@@ -40,7 +40,7 @@ returns : tie.Need-returns
 returns c =
     let p = c .before .before in
     let b = p .before .before in
-    let a = b .before .before in
+    let a = b .before .before .before in
     marked-ok (a .before .before .before .pre .1) (a .entry-if .ensures .0) (b .entry-if2 .ensures .0) (p .put-record .ensures)
 
 pub mark-record-spec : {M : Type 1} → statement M
@@ -49,7 +49,7 @@ mark-record-spec =
     (tie.spec
     cast-z
     entry-if-requires
-    add-entry-if
+    add-t15
     entry-if-requires-2
     mul-put-record
     add-put-record

@@ -9,19 +9,19 @@ use Rattle.restrict.proofs.mark_singly.Statement.{statement}
 use Rattle.restrict.proofs.mark_singly.Tie as tie
 
 abbrev Inv-loop : tie.InvT-loop
-Inv-loop q₀ r n w i₀ c₀ y₀ q i c y = Marking w q₀ r n i c q × Kept q₀ i y
+Inv-loop q₀ r n w i₀ c₀ y₀ q i c y = Marking w q₀ (r .0) n i c q × Kept q₀ i y
 
 abbrev μ-loop : tie.MeasureT-loop
 μ-loop q₀ r n w i₀ c₀ y₀ q i c y = i
 
 abbrev start : tie.At-loop Inv-loop μ-loop → tie.Start Inv-loop μ-loop
-start l = l .before .before .before .before
+start l = l .before .before .before .before .before
 
 abbrev loopOf : tie.After-record-in Inv-loop μ-loop → tie.At-loop Inv-loop μ-loop
 loopOf t = t .before .before
 
 at : (t : tie.After-record-in Inv-loop μ-loop)
-    → Marking (start (loopOf t) .args .w) (now (start (loopOf t) .args .q)) (start (loopOf t) .args .r) (start (loopOf t) .args .n)
+    → Marking (start (loopOf t) .args .w) (now (start (loopOf t) .args .q)) (start (loopOf t) .args .r .0) (start (loopOf t) .args .n)
     (suc (loopOf t .loop .i - 1)) (loopOf t .loop .c) (loopOf t .loop .q)
 at t =
     let z : suc (loopOf t .loop .i - 1) ≡ loopOf t .loop .i = omega (arith, t .before .loop-test .taken) in
@@ -36,21 +36,21 @@ recordOf m = m .before .before
 
 -- one record more is done
 marked : (m : tie.After-mark-record Inv-loop μ-loop)
-    → Marking (start (loopOf (recordOf m)) .args .w) (now (start (loopOf (recordOf m)) .args .q)) (start (loopOf (recordOf m)) .args .r) (start (loopOf (recordOf m)) .args .n)
+    → Marking (start (loopOf (recordOf m)) .args .w) (now (start (loopOf (recordOf m)) .args .q)) (start (loopOf (recordOf m)) .args .r .0) (start (loopOf (recordOf m)) .args .n)
     (loopOf (recordOf m) .loop .i - 1) (loopOf (recordOf m) .loop .c - (recordOf m .record-in .result / 2 + recordOf m .record-in .result % 2)) (m .mark-record .last .0)
 marked m =
     let t = recordOf m in
     mark-more (start (loopOf t) .pre .2) (at t) (t .record-in .ensures .1) (read t) (m .mark-record .ensures)
 
 add-c : tie.Need-add-c Inv-loop μ-loop
-add-c c = record { fits = omega (arith, c .before .pre) }
+add-c c = record { fits = omega (arith, c .before .before .pre) }
 
 byte-before-requires : tie.Need-byte-before-requires Inv-loop μ-loop
-byte-before-requires c κs = λ h. omega (arith, c .before .before .pre)
+byte-before-requires c κs = λ h. omega (arith, c .before .before .before .pre)
 
 loop-holds : tie.Need-loop-holds Inv-loop μ-loop
 loop-holds c =
-    let v = mark-none (c .before .before .before .pre .2) in
+    let v = mark-none (c .before .before .before .before .pre .2) in
     (v, kept-read v (c .byte-before .ensures))
 
 sub-j : tie.Need-sub-j Inv-loop μ-loop
