@@ -3,8 +3,8 @@ use mathlib.Core.Path.{_≡_, sym, ap, _∙_}
 use mathlib.Core.List.{[], _∷_, _++_, append-assoc, append-nil}
 use Prim.Native.Nat.{ℕ, _+_, _-_, _*_, _/_, _^_, _≤_, _<_}
 use native.Mathlib.Omega.{arith}
-use lib.ListN.{length, take, drop, length-append, length-drop, drop-of-length-le, take-append-drop}
-use lib.Seq.{take-all, take-at, drop-at, drop-drop, drop-append-add, length-take-le}
+use lib.ListN.{length, take, drop, length-append, length-take, length-drop, drop-of-length-le, take-append-drop}
+use lib.Seq.{take-all, take-at, drop-at, take-take, drop-drop, take-append-le, drop-append-add, length-take-le}
 use native.Mathlib.Numerals.{add-one}
 use native.Mathlib.Nat.{mul-comm}
 use borrow.Rule.Slice.PartMut.{putMid}
@@ -42,52 +42,50 @@ module _ (f g xs zs ys : Bytes) (n : ℕ) (size : length f ≡ n) (done : zs ≡
       let wrote : ys ≡ g ++ drop (length f + length g) xs = e ∙ rw (part, drop-drop) in
       rw (before, gone, wrote, append-nil, length-append, append-assoc)
 
--- behind f come g and h, and h is written first: by a callee that is lent `&mut out[m..]` and leaves vs of it, then g by one that is lent `&mut out[n..]` and leaves ys
-module _ (f g h xs zs vs ys : Bytes) (n m : ℕ) (size : length f ≡ n) (place : length (f ++ g) ≡ m) (done : zs ≡ front f xs) (room : m + length h ≤ length xs)
-    (last : vs ≡ front h (take (length zs - m) (drop m zs))) where
-  -- what stands where g will
-  abbrev p : Bytes
-  p = take (length g) (drop n xs)
+-- what stands before a place is in front already
+pub front-take : (k : ℕ) (xs : Bytes) → k ≤ length xs → xs ≡ front (take k xs) xs
+unfolding front
+front-take k xs h = sym (take-append-drop k xs) ∙ ap (λ n. take k xs ++ drop n xs) (sym (length-take-le k xs h))
 
-  abbrev rest : Bytes
-  rest = drop (m + length h) xs
+-- and stays, when h is written at the place
+pub before-stays : (k n : ℕ) (h xs : Bytes) → n ≤ k → k ≤ length xs → take n (front (take k xs ++ h) xs) ≡ take n xs
+unfolding front
+before-stays k n h xs q r =
+    ap (take n) (append-assoc (take k xs) h (drop (length (take k xs ++ h)) xs))
+    ∙ take-append-le n (take k xs) (h ++ drop (length (take k xs ++ h)) xs) (omega (arith, length-take-le k xs r)) ∙ take-take n k xs q
 
-  size-p : length (f ++ p) ≡ m
-  size-p = omega (arith, place, length-append f g, length-append f p, length-take-le (length g) (drop n xs) (omega (arith, place, length-append f g, length-drop n xs)))
+-- a callee is lent `&mut xs[k..]`, puts g to its front and leaves ys
+pub put-at : (k : ℕ) (g xs ys : Bytes) → k + length g ≤ length xs → ys ≡ front g (take (length xs - k) (drop k xs)) → putMid k (length xs - k) xs ys ≡ front (take k xs ++ g) xs
+put-at k g xs ys h =
+    behind (take k xs) g xs xs ys k (length-take-le k xs (omega arith)) (front-take k xs (omega arith)) (omega (arith, length-take-le k xs (omega arith)))
 
-  started-p : zs ≡ front (f ++ p) xs
-  unfolding front
-  started-p =
-      let e : drop n xs ≡ p ++ drop m xs = sym (take-append-drop (length g) (drop n xs)) ∙ ap (λ x. p ++ x) (drop-drop (length g) n xs ∙ ap (λ k. drop k xs) (let z : n + length g ≡ m = omega (arith, place, length-append f g) in z)) in
-      done ∙ ap (λ k. f ++ drop k xs) size ∙ ap (λ x. f ++ x) e ∙ sym (append-assoc f p (drop m xs)) ∙ ap (λ k. (f ++ p) ++ drop k xs) (sym size-p)
-
-  abbrev us : Bytes
-  us = putMid m (length zs - m) zs vs
-
-  wrote-last : us ≡ f ++ (p ++ (h ++ rest))
-  unfolding front
-  wrote-last =
-      behind (f ++ p) h xs zs vs m size-p started-p (omega (arith, size-p)) last
-      ∙ rw (length-append (f ++ p) h, size-p, append-assoc, append-assoc)
+-- behind the first n of xs come g and h, and h is written first, which leaves us; then g by a callee that is lent `&mut us[n..]` and leaves ys
+module _ (g h xs us ys : Bytes) (n m : ℕ) (place : n + length g ≡ m) (room : m + length h ≤ length xs) (last : us ≡ front (take m xs ++ h) xs) where
+  long-before : length (take m xs ++ h) ≡ m + length h
+  long-before = length-append (take m xs) h ∙ ap (λ k. k + length h) (length-take-le m xs (omega arith))
 
   pub long-us : length us ≡ length xs
-  long-us = omega (arith, ap length wrote-last, length-append f (p ++ (h ++ rest)), length-append p (h ++ rest), length-append h rest, length-append f p, size-p, length-drop (m + length h) xs)
-
-  front-us : us ≡ front f us
   unfolding front
-  front-us = let d : drop n us ≡ p ++ (h ++ rest) = ap (drop n) wrote-last ∙ drop-at f (p ++ (h ++ rest)) n size in wrote-last ∙ rw (size, d)
+  long-us = ap length last ∙ simp (length-append, length-drop) (omega (arith, long-before, length-append (take m xs) h))
 
-  room-us : length f + length g ≤ length us
-  room-us = omega (arith, long-us, place, length-append f g)
+  same-before : take n us ≡ take n xs
+  same-before = ap (take n) last ∙ before-stays m n h xs (omega arith) (omega arith)
+
+  room-us : n + length g ≤ length us
+  room-us = omega (arith, long-us)
 
   pub part-us : length g ≤ length (take (length us - n) (drop n us))
-  part-us = part-room f g us us ys n size front-us room-us
+  part-us = omega (arith, room-us, length-take (length us - n) (drop n us), length-drop n us)
 
-  pub between : ys ≡ front g (take (length us - n) (drop n us)) → putMid n (length us - n) us ys ≡ front ((f ++ g) ++ h) xs
+  pub between : ys ≡ front g (take (length us - n) (drop n us)) → putMid n (length us - n) us ys ≡ front ((take n xs ++ g) ++ h) xs
   unfolding front
   between e =
-      let d : drop m us ≡ h ++ rest = ap (drop m) (wrote-last ∙ sym (append-assoc f p (h ++ rest))) ∙ drop-at (f ++ p) (h ++ rest) m size-p in
-      behind f g us us ys n size front-us room-us e ∙ rw (place, d, length-append (f ++ g) h, place) (sym (append-assoc (f ++ g) h rest))
+      let size : length (take n us ++ g) ≡ m = omega (arith, length-append (take n us) g, length-take-le n us (omega (arith, room-us))) in
+      let same : length (take n xs ++ g) ≡ m = omega (arith, length-append (take n xs) g, length-take-le n xs (omega arith)) in
+      let rest : Bytes = drop (m + length h) xs in
+      let d : drop m us ≡ h ++ rest =
+      ap (drop m) (last ∙ ap (λ k. (take m xs ++ h) ++ drop k xs) long-before ∙ append-assoc (take m xs) h rest) ∙ drop-at (take m xs) (h ++ rest) m (length-take-le m xs (omega arith)) in
+      put-at n g us ys room-us e ∙ rw (size, d, same-before, length-append (take n xs ++ g) h, same) (sym (append-assoc (take n xs ++ g) h rest))
 
 -- a number below 2 ^ 32 in 8 bytes has four zeros in front
 pub eight : (n : ℕ) → n < 2 ^ 32 → bigEndian 4 0 ++ bigEndian 4 n ≡ bigEndian 8 n
@@ -137,12 +135,12 @@ pub field-is : (t : ℕ) (x : Bytes) (n : ℕ) → length x ≡ n → (t ∷ big
 unfolding field
 field-is t x n h = ap (λ k. (t ∷ bigEndian 2 k) ++ x) (sym h)
 
--- a field of numbers, when all are written
-pub numbers-field : (t w : ℕ) (f : ℕ → ℕ) (n len : ℕ) (xs zs ys : Bytes) → n * w ≡ len → zs ≡ front (t ∷ bigEndian 2 len) xs
-    → ys ≡ front ((t ∷ bigEndian 2 len) ++ bigEndians w f n) zs → ys ≡ front (field t (bigEndians w f n)) xs
-numbers-field t w f n len xs zs ys e g h =
-    h ∙ ap (front ((t ∷ bigEndian 2 len) ++ bigEndians w f n)) g ∙ front-again (t ∷ bigEndian 2 len) (bigEndians w f n) xs
-    ∙ ap (λ x. front x xs) (field-is t (bigEndians w f n) len (length-bigEndians w f n ∙ e))
+-- a field of numbers behind p, when all are written
+pub numbers-field : (p : Bytes) (t w : ℕ) (f : ℕ → ℕ) (n len : ℕ) (xs zs ys : Bytes) → n * w ≡ len → zs ≡ front (p ++ t ∷ bigEndian 2 len) xs
+    → ys ≡ front ((p ++ t ∷ bigEndian 2 len) ++ bigEndians w f n) zs → ys ≡ front (p ++ field t (bigEndians w f n)) xs
+numbers-field p t w f n len xs zs ys e g h =
+    h ∙ ap (front ((p ++ t ∷ bigEndian 2 len) ++ bigEndians w f n)) g ∙ front-again (p ++ t ∷ bigEndian 2 len) (bigEndians w f n) xs
+    ∙ ap (λ x. front x xs) (append-assoc p (t ∷ bigEndian 2 len) (bigEndians w f n) ∙ ap (λ x. p ++ x) (field-is t (bigEndians w f n) len (length-bigEndians w f n ∙ e)))
 
 -- a field in front leaves the buffer's length
 pub field-long : (t : ℕ) (x xs ys : Bytes) → ys ≡ front (field t x) xs → 3 + length x ≤ length xs → length ys ≡ length xs

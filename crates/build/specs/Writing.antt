@@ -1,13 +1,15 @@
 -- What the writer is given and what it answers.
 use mathlib.Core.Path.{_≡_}
-use Prim.Native.Nat.{ℕ, _*_, _≤_, _<_}
+use Prim.Native.Nat.{ℕ, _+_, _*_, _≤_, _<_}
 use mathlib.Core.Bool.{Bool}
-use mathlib.Core.List.{List, [], _∷_}
-use lib.ListN.{length, getD}
-use Rattle.loes.specs.Bytes.{Bytes, packBits, bitsIn}
+use mathlib.Core.List.{List, [], _∷_, _++_}
+use lib.ListN.{length, getD, take, drop}
+use Rattle.loes.specs.Limits.{blockBits, subBlockBits}
+use Rattle.loes.specs.Bytes.{Bytes, started, bigEndians, packBits, bitsIn}
 use Rattle.loes.specs.Edges.{ones}
 use Rattle.loes.specs.Entry.{count}
-use Rattle.loes.specs.Encode.{levelEnd, blockOnes}
+use Rattle.loes.specs.Encode.{field, levelEnd, blockOnes, subBlockOnes}
+use Rattle.loes.specs.Read.{edgeBytes, start4}
 use Rattle.loes.specs.Held.{held, Holds}
 use Rattle.loes.specs.Model.{refused, wrote, Outcome}
 use Rattle.build.specs.declared.Seen.{Seen}
@@ -18,6 +20,10 @@ use Rattle.build.specs.declared.Written.the-variants as written
 pub record Sealed (m b : ℕ) (l : Bytes) : Type 0 where
   pub holds : Holds m b l
   pub whole : packBits (bitsIn l b) ≡ l
+
+-- the edge bytes that stand in their place in a buffer, behind field 4's head
+unfoldable pub standing : ℕ → ℕ → Bytes → Bytes
+standing m b out = take (edgeBytes b) (drop (start4 m + 3) out)
 
 -- the set bits of the first bytes
 abbrev pub Counts : Bytes → Seen → Type 0
@@ -36,6 +42,16 @@ maxBlocks = 8
 -- of each of n blocks, the set bits before it
 abbrev pub Based : List Bool → ℕ → List ℕ → Type 0
 Based e n bases = (j : ℕ) → j < n → getD bases j 0 ≡ blockOnes e j
+
+-- the b edges with which a buffer begins
+abbrev pub leading : ℕ → Bytes → List Bool
+leading b out = bitsIn (take (edgeBytes b) out) b
+
+-- edge bytes, and fields 5 and 6 behind them
+unfoldable pub indexed : ℕ → Bytes → Bytes
+indexed b l =
+    (l ++ field 5 (bigEndians 8 (blockOnes (bitsIn l b)) (started blockBits b)))
+    ++ field 6 (bigEndians 2 (subBlockOnes (bitsIn l b)) (started subBlockBits b))
 
 -- what the writer's answer says, with the buffer at exit
 unfoldable pub writtenOutcome : Written → Bytes → Outcome

@@ -2,16 +2,18 @@
 ghost use Prim.Native.Nat.{ℕ, _+_, _-_, _*_, _/_, _%_, _^_, _<_, _≤_};
 ghost use mathlib.Core.Path.{_≡_};
 ghost use mathlib.Core.List.{[], _∷_, _++_};
-ghost use lib.ListN.{length, getD};
+ghost use lib.ListN.{length, getD, take, drop};
+ghost use lib.Dec.{ltb};
 ghost use Rattle.loes.specs.Limits.{maxWidth, maxEdges, blockBits, subBlockBits};
 ghost use Rattle.loes.specs.Bytes.{bigEndian, bigEndians, started, bitsIn, front};
 ghost use Rattle.loes.specs.Edges.{ones};
-ghost use Rattle.loes.specs.Encode.{field, blockOnes, subBlockOnes};
+ghost use Rattle.loes.specs.Encode.{field, subBlockOnes, encode};
 ghost use Rattle.loes.specs.Held.{held, Holds};
 ghost use Rattle.loes.specs.Model.{writes};
-ghost use Rattle.loes.specs.Read.{levelBytes, blockBytes, subBlockBytes, endOf};
+ghost use Rattle.loes.specs.Read.{levelBytes, edgeBytes, blockBytes, subBlockBytes, start4, endOf};
 ghost use Rattle.bits.specs.Tables.{Tallies};
-ghost use Rattle.build.specs.Writing.{Sealed, Counts, Shaped, maxBlocks, Based, writtenOutcome};
+ghost use Rattle.build.specs.Writing.{Sealed, standing, Counts, Shaped, maxBlocks, leading, Based, indexed, writtenOutcome};
+use bits::EdgeOffset;
 use encoding::Encoding;
 
 // The bytes of a sub-block, and how many sub-blocks a block has.
@@ -23,6 +25,9 @@ const SUB_BLOCKS: usize = Encoding::BLOCK_BITS / Encoding::SUB_BLOCK_BITS;
 const BLOCK_REST: usize = Encoding::BLOCK_BITS - 1;
 
 const SUB_BLOCK_REST: usize = Encoding::SUB_BLOCK_BITS - 1;
+
+// The bytes of a field's tag and length.
+const HEAD: usize = 3;
 
 // As many blocks as there can be.
 const MAX_BLOCKS: usize = (Encoding::MAX_EDGES + BLOCK_REST) / Encoding::BLOCK_BITS;
@@ -66,15 +71,6 @@ fn put_head(out: &mut [u8], tag: u8, n: usize)
     out[2] = (n % 256) as u8;
 }
 
-// A whole field, from its body.
-fn put_field(out: &mut [u8], tag: u8, body: &[u8])
-    requires { ⌜ 3 + length (now body) ≤ length (now out) ⌝ }
-    ensures { λ _. ⌜ now (out .exit) ≡ front (field tag (now (body .entry))) (now (out .entry)) ⌝ }
-{
-    put_head(out, tag, body.len());
-    let n = bytes::copy(body, &mut out[3..]);
-}
-
 // ---- Counting
 // The set bits of so many bytes from the first on.
 pub struct Seen {
@@ -116,15 +112,16 @@ fn count_to(edges: &[u8], t: &[u8], s: Seen, upto: usize) -> Seen
 }
 
 // The set bits before an offset in the byte behind those seen.
-fn ones_at(edges: &[u8], t: &[u8], s: Seen, o: usize) -> usize
-    requires { ⌜ Counts (now edges) s × Tallies (now t) × (s .bytes ≡ o / 8) × (o ≤ 8 * length (now edges)) × (length (now edges) ≤ maxEdges / 8) ⌝ }
-    ensures { λ r. ⌜ r ≡ ones (bitsIn (now (edges .entry)) o) ⌝ }
+fn ones_at(edges: &[u8], t: &[u8], s: Seen, o: EdgeOffset) -> usize
+    requires { ⌜ Counts (now edges) s × Tallies (now t) × (s .bytes ≡ o .0 / 8) × (o .0 ≤ 8 * length (now edges)) × (length (now edges) ≤ maxEdges / 8) ⌝ }
+    ensures { λ r. ⌜ r ≡ ones (bitsIn (now (edges .entry)) (o .0)) ⌝ }
 {
-    let k = o % 8;
+    let n = o.0;
+    let k = n % 8;
     if k == 0 {
         return s.ones;
     }
-    let x = edges[o / 8] as usize;
+    let x = edges[n / 8] as usize;
     s.ones + t[x >> (8 - k)] as usize
 }
 
@@ -141,7 +138,7 @@ fn level_ends(edges: &[u8], t: &[u8], m: usize, b: usize, ends: &mut [usize]) ->
         let end = 2 * (c + n);
         ends[d] = end;
         seen = count_to(edges, t, seen, end / 8);
-        n = ones_at(edges, t, seen, end);
+        n = ones_at(edges, t, seen, EdgeOffset(end));
         d += 1;
     }
     c + n - b / 2
@@ -157,7 +154,7 @@ fn put_levels(out: &mut [u8], m: usize, ends: &[usize])
     let mut d = 0;
     while d < m {
         let end = ends[d];
-        let at = 3 + 4 * d;
+        let at = HEAD + 4 * d;
         put4(&mut out[at..], end);
         d += 1;
     }
@@ -173,30 +170,31 @@ fn put_blocks(out: &mut [u8], blocks: usize, bases: &[usize])
     let mut j = 0;
     while j < blocks {
         let n = bases[j];
-        let at = 3 + 8 * j;
+        let at = HEAD + 8 * j;
         put8(&mut out[at..], n);
         j += 1;
     }
 }
 
-// Field 6: for each started sub-block, the set bits of its block before it. The set bits before each block are met on the way.
-fn put_sub_blocks(out: &mut [u8], edges: &[u8], t: &[u8], b: usize, bases: &mut [usize])
-    requires { ⌜ (3 + subBlockBytes b ≤ length (now out)) × (b ≤ 8 * length (now edges)) × (length (now edges) ≤ maxEdges / 8) × Tallies (now t) × (length (now bases) ≡ maxBlocks) ⌝ }
-    ensures { λ _. ⌜ now (out .exit) ≡ front (field 6 (bigEndians 2 (subBlockOnes (bitsIn (now (edges .entry)) b)) (started subBlockBits b))) (now (out .entry)) ⌝ }
-    ensures { λ _. ⌜ Based (bitsIn (now (edges .entry)) b) (started blockBits b) (now (bases .exit)) ⌝ }
+// Field 6, at a place behind the edges, with which the buffer begins: for each started sub-block, the set bits of its block before it. The set bits before each block are met on the way.
+fn put_sub_blocks(out: &mut [u8], at: usize, t: &[u8], b: usize, bases: &mut [usize])
+    requires { ⌜ (edgeBytes b ≤ at) × (at + 3 + subBlockBytes b ≤ length (now out)) × (b ≤ maxEdges) × Tallies (now t) × (length (now bases) ≡ maxBlocks) ⌝ }
+    ensures { λ _. ⌜ now (out .exit) ≡ front (take at (now (out .entry)) ++ field 6 (bigEndians 2 (subBlockOnes (leading b (now (out .entry)))) (started subBlockBits b))) (now (out .entry)) ⌝ }
+    ensures { λ _. ⌜ Based (leading b (now (out .entry))) (started blockBits b) (now (bases .exit)) ⌝ }
 {
+    let len = (b + 7) / 8;
     let subs = (b + SUB_BLOCK_REST) / Encoding::SUB_BLOCK_BITS;
-    put_head(out, 6, 2 * subs);
+    put_head(&mut out[at..], 6, 2 * subs);
     let mut seen = Seen { bytes: 0, ones: 0 };
     let mut base = 0;
     let mut j = 0;
     while j < subs {
-        seen = count_to(edges, t, seen, SUB_BLOCK_BYTES * j);
+        seen = count_to(&out[..len], t, seen, SUB_BLOCK_BYTES * j);
         let n = seen.ones;
         base = encoding::block_base(j, base, n);
         bases[j / SUB_BLOCKS] = base;
-        let at = 3 + 2 * j;
-        put2(&mut out[at..], n - base);
+        let next = at + HEAD + 2 * j;
+        put2(&mut out[next..], n - base);
         j += 1;
     }
 }
@@ -207,7 +205,7 @@ fn put_width(out: &mut [u8], m: usize)
     ensures { λ _. ⌜ now (out .exit) ≡ front (field 1 (bigEndian 2 m)) (now (out .entry)) ⌝ }
 {
     put_head(out, 1, 2);
-    put2(&mut out[3..], m);
+    put2(&mut out[HEAD..], m);
 }
 
 // Field 2: the number of members.
@@ -216,7 +214,7 @@ fn put_count(out: &mut [u8], n: usize)
     ensures { λ _. ⌜ now (out .exit) ≡ front (field 2 (bigEndian 4 n)) (now (out .entry)) ⌝ }
 {
     put_head(out, 2, 4);
-    put4(&mut out[3..], n);
+    put4(&mut out[HEAD..], n);
 }
 
 // Fields 1 to 3, each behind the one before it.
@@ -236,18 +234,52 @@ fn no_bases() -> [usize; MAX_BLOCKS]
     [0usize; MAX_BLOCKS]
 }
 
-// Fields 4 to 6: field 5 last, when what it says is known.
-fn put_edges(out: &mut [u8], edges: &[u8], t: &[u8], b: usize)
-    requires { ⌜ (9 + length (now edges) + blockBytes b + subBlockBytes b ≤ length (now out)) × (b ≤ 8 * length (now edges)) × (length (now edges) ≤ maxEdges / 8) × Tallies (now t) ⌝ }
-    ensures { λ _. ⌜ now (out .exit) ≡ front ((field 4 (now (edges .entry)) ++ field 5 (bigEndians 8 (blockOnes (bitsIn (now (edges .entry)) b)) (started blockBits b))) ++ field 6 (bigEndians 2 (subBlockOnes (bitsIn (now (edges .entry)) b)) (started subBlockBits b))) (now (out .entry)) ⌝ }
+// Fields 5 and 6 behind the edges, with which the buffer begins: field 5 last, when what it says is known.
+fn put_index(out: &mut [u8], t: &[u8], b: usize)
+    requires { ⌜ (edgeBytes b + 3 + blockBytes b + 3 + subBlockBytes b ≤ length (now out)) × (b ≤ maxEdges) × Tallies (now t) ⌝ }
+    ensures { λ _. ⌜ now (out .exit) ≡ front (indexed b (take (edgeBytes b) (now (out .entry)))) (now (out .entry)) ⌝ }
 {
+    let len = (b + 7) / 8;
     let blocks = (b + BLOCK_REST) / Encoding::BLOCK_BITS;
-    let at5 = 3 + edges.len();
-    let at6 = at5 + 3 + 8 * blocks;
     let mut bases = no_bases();
-    put_field(out, 4, edges);
-    put_sub_blocks(&mut out[at6..], edges, t, b, &mut bases);
-    put_blocks(&mut out[at5..], blocks, &bases);
+    put_sub_blocks(out, len + HEAD + 8 * blocks, t, b, &mut bases);
+    put_blocks(&mut out[len..], blocks, &bases);
+}
+
+// From field 4 on: its head, and what is behind the edges that stand behind the head.
+fn put_edges(out: &mut [u8], t: &[u8], b: usize)
+    requires { ⌜ (3 + edgeBytes b + 3 + blockBytes b + 3 + subBlockBytes b ≤ length (now out)) × (b ≤ maxEdges) × Tallies (now t) ⌝ }
+    ensures { λ _. ⌜ now (out .exit) ≡ front ((4 ∷ bigEndian 2 (edgeBytes b)) ++ indexed b (take (edgeBytes b) (drop 3 (now (out .entry))))) (now (out .entry)) ⌝ }
+{
+    put_head(out, 4, (b + 7) / 8);
+    put_index(&mut out[HEAD..], t, b);
+}
+
+// ---- The length
+// Where the edges stand in an encoding of width m: behind field 4's head. The places up to there are the same for all sets of a width.
+pub fn edges_at(m: usize) -> usize
+    requires { ⌜ m ≤ maxWidth ⌝ }
+    ensures { λ r. ⌜ r ≡ start4 m + 3 ⌝ }
+{
+    let e = Encoding::new(m, 0, 0);
+    e.edges
+}
+
+// The length of an encoding of width m with b edge bits, however many its members.
+pub fn length_of(m: usize, b: usize) -> usize
+    requires { ⌜ (m ≤ maxWidth) × (b ≤ maxEdges) ⌝ }
+    ensures { λ r. ⌜ r ≡ endOf m b ⌝ }
+{
+    let e = Encoding::new(m, 0, b);
+    e.sub_blocks + 2 * ((b + SUB_BLOCK_REST) / Encoding::SUB_BLOCK_BITS)
+}
+
+// The test of 14: whether a buffer of a length is too short for it.
+pub fn too_short(m: usize, b: usize, room: usize) -> bool
+    requires { ⌜ (m ≤ maxWidth) × (b ≤ maxEdges) ⌝ }
+    ensures { λ r. ⌜ r ≡ ltb room (endOf m b) ⌝ }
+{
+    room < length_of(m, b)
 }
 
 // ---- The writer
@@ -257,18 +289,6 @@ pub enum Written {
     Length(usize),
 }
 
-// The length of an encoding of width m with b edge bits.
-fn length_of(m: usize, b: usize) -> usize
-    requires { ⌜ (m ≤ maxWidth) × (b ≤ maxEdges) ⌝ }
-    ensures { λ r. ⌜ r ≡ endOf m b ⌝ }
-{
-    24
-        + 4 * m
-        + (b + 7) / 8
-        + 8 * ((b + BLOCK_REST) / Encoding::BLOCK_BITS)
-        + 2 * ((b + SUB_BLOCK_REST) / Encoding::SUB_BLOCK_BITS)
-}
-
 // Room for the levels' ends.
 fn no_ends() -> [usize; Encoding::MAX_WIDTH]
     ensures { λ r. ⌜ length r ≡ maxWidth ⌝ }
@@ -276,19 +296,31 @@ fn no_ends() -> [usize; Encoding::MAX_WIDTH]
     [0usize; Encoding::MAX_WIDTH]
 }
 
+// The encoding of the entry that edge bytes hold, at the front of a buffer in which they stand in their place already: every other field, around them.
+pub fn write_around_edges(m: usize, b: usize, t: &[u8], out: &mut [u8])
+    requires { ⌜ (endOf m b ≤ length (now out)) × Sealed m b (standing m b (now out)) × Tallies (now t) ⌝ }
+    ensures { λ _. ⌜ now (out .exit) ≡ front (encode (held m b (standing m b (now (out .entry))))) (now (out .entry)) ⌝ }
+{
+    let at = edges_at(m);
+    let end = at + (b + 7) / 8;
+    let mut ends = no_ends();
+    let count = level_ends(&out[at..end], t, m, b, &mut ends);
+    put_shape(out, m, count, &ends);
+    let field4 = at - HEAD;
+    put_edges(&mut out[field4..], t, b);
+}
+
 // The encoding of the entry that edge bytes hold, at the front of the buffer, if it fits: nothing is written before that is known.
 pub fn write(m: usize, b: usize, edges: &[u8], t: &[u8], out: &mut [u8]) -> Written
     requires { ⌜ Sealed m b (now edges) × Tallies (now t) ⌝ }
     ensures { λ r. ⌜ writtenOutcome r (now (out .exit)) ≡ writes [] (held m b (now (edges .entry)) ∷ []) (now (out .entry) ∷ []) .outcome ⌝ }
 {
-    let n = length_of(m, b);
-    if out.len() < n {
+    if too_short(m, b, out.len()) {
         return Written::Refused(loes::refusal::SHORT_BUFFER);
     }
-    let mut ends = no_ends();
-    let count = level_ends(edges, t, m, b, &mut ends);
-    put_shape(out, m, count, &ends);
-    let at = 15 + 4 * m;
-    put_edges(&mut out[at..], edges, t, b);
-    Written::Length(n)
+    let at = edges_at(m);
+    let end = at + edges.len();
+    let copied = bytes::copy(edges, &mut out[at..end]);
+    write_around_edges(m, b, t, out);
+    Written::Length(length_of(m, b))
 }

@@ -1,26 +1,24 @@
 -- The plan of a batch, from the counts of its records
 use mathlib.Core.Path.{_≡_, sym, ap, _∙_}
-use Prim.Native.Nat.{ℕ, _+_, _*_, _/_, _%_, _≤_, _<_}
-use mathlib.Core.List.{List, _++_}
-use mathlib.Core.Option.{none, some}
+use Prim.Native.Nat.{ℕ, _*_, _%_, _≤_, _<_}
+use mathlib.Core.List.{List}
+use mathlib.Core.Option.{some}
 use native.Mathlib.Omega.{arith}
-use native.Mathlib.Nat.{mul-assoc, mul-le-mul-right}
-use lib.ListN.{length, drop, getD, replicate}
-use Rattle.loes.specs.Limits.{maxWidth, maxEdges}
-use Rattle.loes.specs.Bytes.{Bytes, started, packBits, front}
+use lib.ListN.{length, getD, replicate}
+use Rattle.loes.specs.Limits.{maxWidth}
+use Rattle.loes.specs.Bytes.{Bytes, started, packBits}
 use Rattle.loes.specs.Edges.{edges}
 use Rattle.loes.specs.Entry.{keyBytes, edgesOf, edgeCount}
 use Rattle.loes.specs.Refusals.{tooLarge, firstOf}
 use Rattle.loes.specs.Model.{batchEntry}
-use Rattle.loes.proofs.Bytes.{length-packed}
 use Rattle.loes.proofs.Navigation.{recordsBefore}
 use Rattle.pack.specs.Rising.{setBelow}
 use Rattle.pack.specs.Marking.{sumBelow, maxRecords, Starts}
 use Rattle.pack.specs.Batch.{key, RecordsCounted, Unmarked}
-use Rattle.pack.specs.Packing.{edgeTests, edgeRoom, Planned, Unfilled, Made}
+use Rattle.pack.specs.Packing.{edgeTests, Planned, Unfilled}
 use Rattle.pack.specs.declared.Checked.the-variants.{Accepted}
 use Rattle.pack.proofs.Sums.{sum-records}
-use Rattle.pack.proofs.Turn.{counted-le, records-few}
+use Rattle.pack.proofs.Turn.{counted-le}
 use Rattle.pack.proofs.Places.{few-keys}
 use Rattle.pack.proofs.KeyTests.{rising}
 use Rattle.pack.proofs.Batches.{keys, set-is, edge-count, batch-is, too-large, passes, Clean, clean}
@@ -46,17 +44,6 @@ module _ (m : ℕ) (l : Bytes) (positive : 0 < m) (narrow : m ≤ maxWidth) (eve
         let b : 2 * r ≡ edgeCount (batchEntry m l) = omega (arith, st .total h, sum-is m (omega arith), edge-count m l) in
         (record { accepted = passes m l positive narrow even (c .0) (omega arith); starts = λ e q. st .each h e q ∙ sum-is e (omega arith) }, b)
 
--- an accepted batch has room for its edges
-pub room-for : (m : ℕ) (l : Bytes) (b : ℕ) → firstOf (edgeTests m l) ≡ none → b ≡ edgeCount (batchEntry m l) → (b + 7) / 8 ≤ edgeRoom l
-unfolding edgeRoom keyBytes started
-room-for m l b a e =
-    let w : Clean m l = clean m l a in
-    let n : ℕ = keys m l in
-    let t : ℕ = (m + 7) / 8 in
-    let q : m * n ≤ 8 * t * n = mul-le-mul-right n (omega arith) in
-    let p : 8 * t * n ≡ 8 * (t * n) = mul-assoc 8 t n in
-    omega (arith, e, w .few, w .batch .whole, p, q, edge-count m l, ap (recordsBefore m m) (set-is m l), records-few m n (key m l) (w .rises) m (omega arith))
-
 -- ---- filling
 module _ (m : ℕ) (l : Bytes) (levels : List ℕ) (old : Bytes) (u : Unfilled m l levels old) where
   abbrev pub whole : Clean m l
@@ -76,14 +63,3 @@ module _ (m : ℕ) (l : Bytes) (levels : List ℕ) (old : Bytes) (u : Unfilled m
 pub filled : (m : ℕ) (l new : Bytes) → new ≡ packBits (edges m (setBelow (key m l) (keys m l))) → new ≡ packBits (edgesOf (batchEntry m l))
 unfolding edgesOf batchEntry
 filled m l new e = e ∙ ap (λ s. packBits (edges m s)) (sym (set-is m l))
-
--- ---- the answer
-module _ (m : ℕ) (l : Bytes) (levels : List ℕ) (b : ℕ) (p : Planned m l levels (Accepted b)) where
-  pub few-edges : b ≤ maxEdges
-  few-edges = omega (arith, p .1, clean m l (p .0 .accepted) .few)
-
-  pub made : (old new : Bytes) → new ≡ packBits (edgesOf (batchEntry m l)) → Made m l old (new ++ drop ((b + 7) / 8) old) b
-  unfolding front edgeCount started
-  made old new e =
-      let n : (b + 7) / 8 ≡ length (packBits (edgesOf (batchEntry m l))) = rw (p .1) (sym (length-packed (edgesOf (batchEntry m l)))) in
-      record { accepted = p .0 .accepted; count = p .1; bytes = rw (e, n) }

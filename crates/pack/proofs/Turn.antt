@@ -6,7 +6,6 @@ use mathlib.Core.List.{List}
 use native.Mathlib.Omega.{arith}
 use native.Mathlib.Numerals.{add-one}
 use native.Mathlib.Decide.{le-ind}
-use native.Mathlib.Nat.{suc-mul}
 use lib.ListN.{length, take, drop, getD, take-append-drop}
 use lib.Seq.{length-take-le}
 use lib.Dec.{leb}
@@ -43,12 +42,6 @@ module _ (m n : ℕ) (base : ℕ → ℕ) (f : ℕ → Key) (r : Rising m n f) w
       → Counted m base f (i + 1) new
   counted-more i from old new h q u c = λ e le.
       rw (add-one i) (omega (arith, u .each e le, c e le, count-step m n f r i e h (omega arith), ap (λ x. bit (leb x e)) q))
-
--- no more records on a level than keys
-pub records-few : (m n : ℕ) (f : ℕ → Key) → Rising m n f → (d : ℕ) → d ≤ m → recordsBefore d m (setBelow f n) ≤ d * n
-unfolding recordsBefore
-records-few m n f r zero h = omega arith
-records-few m n f r (suc d) h = omega (arith, records-few m n f r d (omega arith), count-le m n (λ x. 0) f r n d (omega arith) h, suc-mul d n)
 
 -- ---- marking: the records before each level are those of the whole set
 pub records-le : (d m : ℕ) (s : KeySet) → d < m → recordsBefore d m s + prefixCount d m s ≤ recordsBefore m m s

@@ -1,41 +1,57 @@
--- What was made of a batch is what the writer is given, and writing it is what is left of the call.
-use mathlib.Core.Path.{_≡_, sym, ap, _∙_}
-use Prim.Native.Nat.{ℕ, _+_, _/_}
+-- The edges of a batch that passed are what the writer is given, and writing them is what is left of the call.
+use mathlib.Core.Path.{_≡_, ap, _∙_}
+use Prim.Native.Nat.{ℕ, _≤_, _<_}
 use mathlib.Core.List.{[], _∷_}
-use lib.ListN.{take}
-use lib.Seq.{take-at}
-use Rattle.loes.specs.Bytes.{Bytes, started, packBits, front}
-use Rattle.loes.specs.Entry.{Entry, edgesOf, edgeCount}
-use Rattle.loes.specs.Model.{batchEntry, writes}
+use mathlib.Core.Option.{none}
+use native.Mathlib.Omega.{arith}
+use lib.ListN.{length}
+use Rattle.loes.specs.Limits.{maxWidth, maxEdges}
+use Rattle.loes.specs.Bytes.{Bytes, packBits, front}
+use Rattle.loes.specs.Entry.{Entry, edgesOf, edgeCount, Valid}
+use Rattle.loes.specs.Encode.{encode}
+use Rattle.loes.specs.Read.{endOf}
+use Rattle.loes.specs.Refusals.{shortBuffer, firstOf}
+use Rattle.loes.specs.Model.{wrote, refusal, batchEntry}
 use Rattle.loes.specs.Held.{held}
 use Rattle.loes.specs.Calls.{packCall}
-use Rattle.loes.proofs.Bytes.{length-packed}
+use Rattle.loes.proofs.Reading.{encode-length}
+use Rattle.loes.proofs.Writes.{writes-short, writes-fits}
 use Rattle.build.specs.Writing.{Sealed}
 use Rattle.build.proofs.Sealing.{held-back, sealed-back}
-use Rattle.pack.specs.Packing.{Made}
-use Rattle.pack.proofs.Valid.{made-valid}
+use Rattle.pack.specs.Packing.{edgeTests}
+use Rattle.pack.proofs.Valid.{batch-valid}
 use Rattle.pack.proofs.Calls.{pack-accepted}
 
-module _ (m : ℕ) (l old new : Bytes) (b : ℕ) (made : Made m l old new b) where
+module _ (m b : ℕ) (l : Bytes) (accepted : firstOf (edgeTests m l) ≡ none) (count : b ≡ edgeCount (batchEntry m l)) where
   abbrev e : Entry
   e = batchEntry m l
 
-  -- what was made, cut to its length, is the entry's edges
-  cut : take ((b + 7) / 8) new ≡ packBits (edgesOf e)
-  unfolding front edgeCount started
-  cut = ap (take ((b + 7) / 8)) (made .bytes) ∙ take-at (packBits (edgesOf e)) _ ((b + 7) / 8) (length-packed (edgesOf e) ∙ ap (started 8) (sym (made .count)))
+  valid : Valid e
+  valid = batch-valid m l accepted
 
-  pub made-sealed : Sealed m b (take ((b + 7) / 8) new)
+  pub batch-small : (m ≤ maxWidth) × (b ≤ maxEdges)
   unfolding batchEntry
-  made-sealed = rw (cut, made .count) (sealed-back e (made-valid m l old new b made))
+  batch-small = (valid .narrow, omega (arith, count, valid .few))
 
-  held-entry : held m b (take ((b + 7) / 8) new) ≡ e
+  pub batch-sealed : Sealed m b (packBits (edgesOf e))
   unfolding batchEntry
-  held-entry = rw (cut, made .count) (held-back e (made-valid m l old new b made))
+  batch-sealed = rw count (sealed-back e valid)
 
-  -- and writing it is what is left of the call
-  pub made-call : (out : Bytes) → writes [] (held m b (take ((b + 7) / 8) new) ∷ []) (out ∷ []) .outcome ≡ packCall m l out
-  unfolding packCall
-  made-call out =
-      ap (λ x. writes [] (x ∷ []) (out ∷ []) .outcome) held-entry
-      ∙ ap (λ x. x .outcome) (sym (pack-accepted m l out (made .accepted)))
+  pub batch-held : held m b (packBits (edgesOf e)) ≡ e
+  unfolding batchEntry
+  batch-held = rw count (held-back e valid)
+
+  pub batch-length : length (encode e) ≡ endOf m b
+  unfolding batchEntry
+  batch-length = rw count (encode-length e)
+
+  module _ (out : Bytes) where
+    pub call-short : length out < endOf m b → packCall m l out ≡ refusal shortBuffer (out ∷ []) .outcome
+    unfolding packCall
+    call-short h = ap (λ x. x .outcome) (pack-accepted m l out accepted ∙ writes-short e out (valid .few) (omega (arith, batch-length)))
+
+    pub call-fits : endOf m b ≤ length out → packCall m l out ≡ record { answer = wrote (endOf m b ∷ []); buffers = front (encode e) out ∷ [] }
+    unfolding packCall
+    call-fits h =
+        ap (λ x. x .outcome) (pack-accepted m l out accepted) ∙ writes-fits e out (valid .few) (omega (arith, batch-length))
+        ∙ ap (λ n. record { answer = wrote (n ∷ []); buffers = front (encode e) out ∷ [] }) batch-length

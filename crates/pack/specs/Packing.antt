@@ -1,12 +1,12 @@
--- What is answered for a batch: pack's tests up to 5, and the edge bytes of its entry.
+-- What is answered for a batch: pack's tests up to 5, and room for the edge bytes of its entry.
 use mathlib.Core.Path.{_≡_}
-use Prim.Native.Nat.{ℕ, _*_, _/_, _<_, min}
+use Prim.Native.Nat.{ℕ, _<_}
 use mathlib.Core.List.{List, [], _∷_, _++_}
 use mathlib.Core.Option.{none, some}
 use lib.ListN.{length, getD}
-use Rattle.loes.specs.Limits.{maxWidth, maxEdges}
-use Rattle.loes.specs.Bytes.{Bytes, started, packBits, front}
-use Rattle.loes.specs.Entry.{edgesOf, edgeCount, tooManyEdges}
+use Rattle.loes.specs.Limits.{maxWidth}
+use Rattle.loes.specs.Bytes.{Bytes, started}
+use Rattle.loes.specs.Entry.{edgeCount, tooManyEdges}
 use Rattle.loes.specs.Refusals.{tooLarge, Tests, test, firstOf}
 use Rattle.loes.specs.Model.{packTests, batchEntry}
 use Rattle.loes.proofs.Navigation.{recordsBefore}
@@ -16,25 +16,6 @@ use Rattle.pack.specs.declared.Checked.the-variants.{Refused, Accepted}
 -- 4, 10, then key by key 11 and 12, then 5
 unfoldable pub edgeTests : ℕ → Bytes → Tests
 edgeTests m l = packTests m l ++ test (tooManyEdges (edgeCount (batchEntry m l))) tooLarge ∷ []
-
--- bytes that suffice for the edges of a batch that passes: a key has at most a record on each of its levels, of two bits
-unfoldable pub edgeRoom : Bytes → ℕ
-edgeRoom l = min (maxEdges / 8) (2 * length l)
-
--- bytes of a small batch
-abbrev pub smallBatch : ℕ
-smallBatch = 1024
-
--- the batch passes, and b edge bits are in front of what was in the buffer
-pub record Made (m : ℕ) (l old new : Bytes) (b : ℕ) : Type 0 where
-  pub accepted : firstOf (edgeTests m l) ≡ none
-  pub count : b ≡ edgeCount (batchEntry m l)
-  pub bytes : new ≡ front (packBits (edgesOf (batchEntry m l))) old
-
--- refused with the number of the first test that holds, and the buffer as it was; or made
-abbrev pub BatchEdges : ℕ → Bytes → Bytes → Bytes → Checked → Type 0
-BatchEdges m l old new (Refused k) = (firstOf (edgeTests m l) ≡ some k) × (new ≡ old)
-BatchEdges m l old new (Accepted b) = Made m l old new b
 
 -- ---- On the way
 -- no record is counted yet

@@ -1,4 +1,4 @@
-// A sorted batch of keys made to edge bytes, and the call pack.
+// The call pack: a sorted batch of keys, its edges marked where they stand in the encoding.
 ghost use mathlib.Core.Path.{_≡_};
 ghost use Prim.Native.Nat.{ℕ, _+_, _-_, _*_, _/_, _^_, _<_, _≤_};
 ghost use lib.ListN.{length, drop, getD, replicate};
@@ -6,12 +6,11 @@ ghost use Rattle.loes.specs.Limits.{maxWidth, maxEdges};
 ghost use Rattle.loes.specs.Edges.{edges as edgesIn};
 ghost use Rattle.loes.specs.Bytes.{packBits};
 ghost use Rattle.loes.specs.Keys.{less};
-ghost use Rattle.loes.specs.Entry.{keyBytes, edgesOf};
+ghost use Rattle.loes.specs.Entry.{keyBytes, edgesOf, edgeCount};
 ghost use Rattle.loes.specs.Model.{keyIn, batchEntry};
 ghost use Rattle.loes.specs.Calls.{packCall};
-ghost use Rattle.bits.specs.Tables.{Tallies};
 ghost use Rattle.build.specs.Writing.{writtenOutcome};
-ghost use Rattle.pack.specs.Packing.{edgeRoom, smallBatch, Blank, Planned, Unfilled, BatchEdges};
+ghost use Rattle.pack.specs.Packing.{Blank, Ready, Planned, Unfilled};
 ghost use Rattle.pack.specs.Rising.{commonPrefix, firstNew, setBelow};
 ghost use Rattle.pack.specs.Marking.{Bumped, running, Starts, setBit, setBits, secondEdges, offsetOf, Room};
 ghost use Rattle.pack.specs.Batch.{SameBytes, FirstDifference, key, previous, KeyThere, KeyChecked, Uncounted, RecordsCounted, Unmarked};
@@ -20,10 +19,8 @@ use build::Written;
 use encoding::Encoding;
 use loes::refusal;
 
-// Records that the most edges make, and the bytes they take.
+// Records that the most edges make.
 const MAX_RECORDS: usize = Encoding::MAX_EDGES / 2;
-
-const MAX_EDGE_BYTES: usize = Encoding::MAX_EDGES / 8;
 
 // A refusal's number, or the number asked for.
 pub enum Checked {
@@ -317,81 +314,31 @@ fn fill(batch: &[u8], m: usize, levels: &mut [usize], edges: &mut [u8])
     mark_keys(batch, batch.len() / t, t, m, levels, edges);
 }
 
-// Puts the edges of a batch's set to the front of a buffer, and tells how many bits they are; or refuses with 4, 10, then key by key 11 and 12, then 5.
-fn batch_edges(m: usize, batch: &[u8], edges: &mut [u8]) -> Checked
-    requires { ⌜ edgeRoom (now batch) ≤ length (now edges) ⌝ }
-    ensures { λ r. ⌜ BatchEdges m (now (batch .entry)) (now (edges .entry)) (now (edges .exit)) r ⌝ }
-{
-    let mut levels = no_records();
-    let planned = plan(m, batch, &mut levels);
-    let Checked::Accepted(b) = planned else {
-        return planned;
-    };
-    let len = (b + 7) / 8;
-    fill(batch, m, &mut levels, &mut edges[..len]);
-    Checked::Accepted(b)
-}
-
 // ---- The call
-// Room for the edges of any batch.
-fn large_room() -> [u8; MAX_EDGE_BYTES]
-    ensures { λ r. ⌜ length r ≡ maxEdges / 8 ⌝ }
-{
-    [0; MAX_EDGE_BYTES]
-}
-
-// Packs with the counting table and room for the edges lent.
-fn pack_with(m: usize, batch: &[u8], t: &[u8], edges: &mut [u8], out: &mut [u8]) -> Written
-    requires { ⌜ (edgeRoom (now batch) ≤ length (now edges)) × Tallies (now t) ⌝ }
+// The encoding of a planned batch, if it fits: its edges in their place, then the fields around them.
+fn write_planned(m: usize, b: usize, batch: &[u8], levels: &mut [usize], out: &mut [u8]) -> Written
+    requires { ⌜ Ready m (now batch) (now levels) × (b ≡ edgeCount (batchEntry m (now batch))) × (length (now levels) ≡ maxWidth) ⌝ }
     ensures { λ r. ⌜ writtenOutcome r (now (out .exit)) ≡ packCall m (now (batch .entry)) (now (out .entry)) ⌝ }
 {
-    let made = batch_edges(m, batch, edges);
-    match made {
-        Checked::Refused(k) => Written::Refused(k),
-        Checked::Accepted(b) => {
-            let n = (b + 7) / 8;
-            build::write(m, b, &edges[..n], t, out)
-        }
+    if build::too_short(m, b, out.len()) {
+        return Written::Refused(refusal::SHORT_BUFFER);
     }
-}
-
-// Bytes of a small batch, and what its edges take at most.
-const SMALL_BATCH: usize = 1024;
-
-const SMALL_EDGE_BYTES: usize = 2 * SMALL_BATCH;
-
-// Room for them.
-fn small_room() -> [u8; SMALL_EDGE_BYTES]
-    ensures { λ r. ⌜ length r ≡ 2 * smallBatch ⌝ }
-{
-    [0; SMALL_EDGE_BYTES]
-}
-
-// Packs a small batch, which is not to pay for clearing the large room.
-fn pack_small(m: usize, batch: &[u8], out: &mut [u8]) -> Written
-    requires { ⌜ length (now batch) ≤ smallBatch ⌝ }
-    ensures { λ r. ⌜ writtenOutcome r (now (out .exit)) ≡ packCall m (now (batch .entry)) (now (out .entry)) ⌝ }
-{
+    let at = build::edges_at(m);
+    let end = at + (b + 7) / 8;
+    fill(batch, m, levels, &mut out[at..end]);
     let t = bits::tallies();
-    let mut edges = small_room();
-    pack_with(m, batch, &t, &mut edges, out)
+    build::write_around_edges(m, b, &t, out);
+    Written::Length(build::length_of(m, b))
 }
 
-// Packs any batch.
-fn pack_large(m: usize, batch: &[u8], out: &mut [u8]) -> Written
-    ensures { λ r. ⌜ writtenOutcome r (now (out .exit)) ≡ packCall m (now (batch .entry)) (now (out .entry)) ⌝ }
-{
-    let t = bits::tallies();
-    let mut edges = large_room();
-    pack_with(m, batch, &t, &mut edges, out)
-}
-
-// Packs a batch of keys of m bits, laid end to end in rising order, to the front of a buffer.
+// Packs a batch of keys of m bits, laid end to end in rising order, to the front of a buffer. Nothing is written before the last test.
 pub fn pack(m: usize, batch: &[u8], out: &mut [u8]) -> Written
     ensures { λ r. ⌜ writtenOutcome r (now (out .exit)) ≡ packCall m (now (batch .entry)) (now (out .entry)) ⌝ }
 {
-    if batch.len() <= SMALL_BATCH {
-        return pack_small(m, batch, out);
+    let mut levels = no_records();
+    let planned = plan(m, batch, &mut levels);
+    match planned {
+        Checked::Refused(k) => Written::Refused(k),
+        Checked::Accepted(b) => write_planned(m, b, batch, &mut levels, out),
     }
-    pack_large(m, batch, out)
 }

@@ -2,7 +2,7 @@ use denote.Ref.{now}
 use native.Mathlib.Omega.{arith}
 use mathlib.Core.Path.{_≡_, refl, ap, _∙_}
 use Prim.Native.Nat.{ℕ, suc, _+_, _-_, _*_, _<_, _≤_}
-use mathlib.Core.List.{List, _∷_, _++_}
+use mathlib.Core.List.{List, [], _∷_, _++_}
 use lib.ListN.{length, getD}
 use borrow.Author.Needs.{needs}
 use Rattle.loes.specs.Bytes.{Bytes, bigEndian, bigEndians, front}
@@ -101,7 +101,7 @@ written c =
     let a = c .before in
     let s = start a in
     let z : a .loop .d ≡ s .args .m = omega arith in
-    numbers-field 3 4 (number (now (s .args .ends))) (s .args .m) (4 * s .args .m) (now (s .args .out)) (headed a) (a .loop .out) (omega arith) (a .before .before .before .put-head .ensures) (rw z at (a .loop .inv .1))
+    numbers-field [] 3 4 (number (now (s .args .ends))) (s .args .m) (4 * s .args .m) (now (s .args .out)) (headed a) (a .loop .out) (omega arith) (a .before .before .before .put-head .ensures) (rw z at (a .loop .inv .1))
 
 same-length : tie.Need-same-length Inv-loop μ-loop
 same-length c =

@@ -1,21 +1,23 @@
 use denote.Ref.{now}
 use mathlib.Core.Path.{_≡_, sym, ap, ap₂, _∙_}
-use mathlib.Core.List.{[], _∷_, _++_}
-use Prim.Native.Nat.{ℕ, _+_, _-_, _*_, _≤_}
+use mathlib.Core.List.{[], _∷_, append-nil}
+use Prim.Native.Nat.{ℕ, _+_, _-_, _≤_}
 use native.Mathlib.Omega.{arith}
-use lib.ListN.{length, take, drop, length-append}
-use Rattle.loes.specs.Limits.{blockBits, subBlockBits}
-use Rattle.loes.specs.Bytes.{Bytes, started, front}
+use lib.ListN.{length, take, drop, drop-of-length-le}
+use lib.Seq.{take-length}
+use borrow.Rule.Slice.PartMut.{putMid, mid-len}
+use borrow.Author.Tests.{ltb-true, ltb-false}
+use Rattle.loes.specs.Bytes.{Bytes, front}
 use Rattle.loes.specs.Entry.{Entry, edgeCount}
 use Rattle.loes.specs.Encode.{encode}
-use Rattle.loes.specs.Read.{start4, start5, start6, endOf}
+use Rattle.loes.specs.Read.{edgeBytes, endOf}
 use Rattle.loes.specs.Held.{held}
 use Rattle.loes.specs.Model.{wrote, refusal}
 use Rattle.loes.proofs.Writes.{writes-short, writes-fits}
-use Rattle.build.specs.Writing.{Sealed, writtenOutcome}
-use Rattle.build.proofs.Front.{behind, part-room, length-zs}
+use Rattle.build.specs.Writing.{Sealed, standing, writtenOutcome}
 use Rattle.build.proofs.Shape.{held-bits}
-use Rattle.build.proofs.Fields.{shapeFields, edgeFields, shape-length, edge-length, sealed-small, held-length, held-encode}
+use Rattle.build.proofs.Fields.{sealed-length, held-length}
+use Rattle.build.proofs.Standing.{edges-end, stands, length-put, covered}
 use borrow.Author.Needs.{needs}
 use Rattle.build.proofs.write.Statement.{statement}
 use Rattle.build.proofs.write.Tie as tie
@@ -43,104 +45,92 @@ module _ (s : tie.Start) where
   long : length (encode (held m b l)) ≡ endOf m b
   long = held-length m b l sealed
 
-length-of-requires : tie.Need-length-of-requires
-length-of-requires c κs = search needs
+-- the encoding fits
+module _ (c : tie.Else1) where
+  abbrev start : tie.Start
+  start = c .before .before .before .before .before
+
+  room : endOf (m start) (b start) ≤ length (xs start)
+  room = ltb-false (length (xs start)) (endOf (m start) (b start)) (sym (c .before .too-short .ensures) ∙ c .if1 .left)
+
+-- where the edges go
+module _ (w : tie.After-edges-at) where
+  abbrev s : tie.Start
+  s = start (w .before)
+
+  abbrev at : ℕ
+  at = w .edges-at .result
+
+  edges-fit : at + length (l s) ≤ length (xs s)
+  edges-fit = omega (arith, w .edges-at .ensures, edges-end (m s) (b s), sealed-length (m s) (b s) (l s) (sealed s), room (w .before))
+
+-- the edges are in their place
+module _ (k : tie.After-copy) where
+  abbrev placed : tie.After-edges-at
+  placed = k .before .before
+
+  abbrev n : ℕ
+  n = at placed + length (l (s placed)) - at placed
+
+  abbrev ys : Bytes
+  ys = k .copy .last .1 .0
+
+  copied : ys ≡ l (s placed)
+  copied =
+      let x : Bytes = take n (drop (at placed) (xs (s placed))) in
+      let z : length x ≡ length (l (s placed)) = mid-len (at placed) (at placed + length (l (s placed))) (xs (s placed)) (edges-fit placed) ∙ omega arith in
+      k .copy .ensures .1 ∙ rw (take-length (l (s placed)), drop-of-length-le x {i = length (l (s placed))} (omega (arith, z))) (append-nil (l (s placed)))
+
+  long-copied : length ys ≡ n
+  long-copied = ap length copied ∙ omega arith
+
+  size : n ≡ edgeBytes (b (s placed))
+  size = omega (arith, sealed-length (m (s placed)) (b (s placed)) (l (s placed)) (sealed (s placed)))
+
+  abbrev zs : Bytes
+  zs = putMid (at placed) n (xs (s placed)) ys
+
+  edges-there : standing (m (s placed)) (b (s placed)) zs ≡ l (s placed)
+  edges-there = stands (m (s placed)) (b (s placed)) (at placed) n (xs (s placed)) ys (placed .edges-at .ensures) size long-copied (room (placed .before)) ∙ copied
+
+too-short-requires : tie.Need-too-short-requires
+too-short-requires c κs = search needs
 
 returns : tie.Need-returns
 unfolding writtenOutcome refusal
 returns c =
     let s = c .before .before .before .before .before in
-    ap (λ x. x .outcome) (sym (writes-short (held (m s) (b s) (l s)) (xs s) (few s) (omega (arith, long s, c .before .length-of .ensures))))
+    ap (λ x. x .outcome) (sym (writes-short (held (m s) (b s) (l s)) (xs s) (few s) (omega (arith, long s, ltb-true (length (xs s)) (endOf (m s) (b s)) (sym (c .before .too-short .ensures) ∙ c .if1 .taken)))))
 
-no-ends-requires : tie.Need-no-ends-requires
-no-ends-requires c κs = search needs
+edges-at-requires : tie.Need-edges-at-requires
+edges-at-requires c κs = search needs
 
-slice-aggregate-level-ends : tie.Need-slice-aggregate-level-ends
-slice-aggregate-level-ends c = search needs
+add-end : tie.Need-add-end
+add-end c = omega (arith, edges-fit c)
 
-level-ends-requires : tie.Need-level-ends-requires
-level-ends-requires c κs =
-    let s = c .before .before .before .before .before .before .before in
-    (sealed s .holds, s .pre .1, sealed-small (m s) (b s) (l s) (sealed s), omega (arith, sealed s .holds .narrow, c .before .no-ends .ensures))
+sub-copy : tie.Need-sub-copy
+sub-copy c = search needs
 
-slice-aggregate-put-shape : tie.Need-slice-aggregate-put-shape
-slice-aggregate-put-shape c = search needs
+part-copy-start : tie.Need-part-copy-start
+part-copy-start c = search needs
 
-shape-room : (m b n : ℕ) → endOf m b ≤ n → 15 + 4 * m ≤ n
-unfolding endOf start6 start5 start4
-shape-room m b n h = omega arith
+part-copy-end : tie.Need-part-copy-end
+part-copy-end c = let f = edges-fit c in search needs
 
--- from the shape's fields on
-abbrev levels : tie.After-put-shape → tie.After-level-ends
-levels p = p .before .before .before .before
+copy-requires : tie.Need-copy-requires
+copy-requires c κs = search needs
 
-abbrev measured : tie.After-level-ends → tie.After-length-of
-measured v = v .before .before .before .before
+write-around-edges-requires : tie.Need-write-around-edges-requires
+write-around-edges-requires c κs =
+    let k = c .before .before .before in
+    let s = s (placed k) in (
+      omega (arith, length-put (m s) (b s) (at (placed k)) (n k) (xs s) (ys k) (placed k .edges-at .ensures) (size k) (long-copied k) (room (placed k .before)), room (placed k .before)),
+      rw (edges-there k) (sealed s),
+      s .pre .1,
+    )
 
-abbrev start : tie.After-length-of → tie.Start
-start n = n .before .before .before .before
-
-abbrev ends : tie.After-level-ends → Bytes
-ends v = v .level-ends .last .1 .1 .1 .1 .0
-
-room : (v : tie.After-level-ends) → endOf (m (start (measured v))) (b (start (measured v))) ≤ length (xs (start (measured v)))
-room v = omega (arith, measured v .length-of .ensures)
-
-module _ (p : tie.After-put-shape) where
-  abbrev v : tie.After-level-ends
-  v = levels p
-
-  abbrev s : tie.Start
-  s = start (measured v)
-
-  abbrev shape : Bytes
-  shape = shapeFields (m s) (v .level-ends .result) (ends v)
-
-  shape-long : length shape ≡ 15 + 4 * m s
-  shape-long = shape-length (m s) (v .level-ends .result) (ends v)
-
-  whole : shape ++ edgeFields (b s) (l s) ≡ encode (held (m s) (b s) (l s))
-  whole = held-encode (m s) (b s) (l s) (sealed s) (ends v) (v .level-ends .result) (v .level-ends .ensures)
-
-  fits : length shape + length (edgeFields (b s) (l s)) ≤ length (xs s)
-  fits = omega (arith, ap length whole, length-append shape (edgeFields (b s) (l s)), long s, room v)
-
-  kept : length (p .put-shape .last .0) ≡ length (xs s)
-  kept = length-zs shape (edgeFields (b s) (l s)) (xs s) (p .put-shape .last .0) (xs s) (15 + 4 * m s) shape-long (p .put-shape .ensures) fits
-
-  edges-room : 9 + length (l s) + 8 * started blockBits (b s) + 2 * started subBlockBits (b s) ≤ length (take (length (p .put-shape .last .0) - (15 + 4 * m s)) (drop (15 + 4 * m s) (p .put-shape .last .0)))
-  edges-room = rw (edge-length (b s) (l s)) at (part-room shape (edgeFields (b s) (l s)) (xs s) (p .put-shape .last .0) (xs s) (15 + 4 * m s) shape-long (p .put-shape .ensures) fits)
-
-put-shape-requires : tie.Need-put-shape-requires
-put-shape-requires c κs =
-    let v = c .before .before .before in
-    let s = start (measured v) in
-    (shape-room (m s) (b s) (length (xs s)) (room v), sealed s .holds .narrow, v .level-ends .ensures .room)
-
-mul-at : tie.Need-mul-at
-mul-at c = search needs
-
-add-at : tie.Need-add-at
-add-at c = search needs
-
-sub-put-edges : tie.Need-sub-put-edges
-sub-put-edges c = let p = c .before .before in omega (arith, kept p, fits p, shape-long p)
-
-part-put-edges-start : tie.Need-part-put-edges-start
-part-put-edges-start c =
-    let p = c .before .before in
-    let k = kept p in
-    let f = fits p in
-    let h = shape-long p in
-    search needs
-
-part-put-edges-end : tie.Need-part-put-edges-end
-part-put-edges-end c = search needs
-
-put-edges-requires : tie.Need-put-edges-requires
-put-edges-requires c κs =
-    let p = c .before .before .before in
-    (edges-room p, sealed (s p) .holds .room, sealed-small (m (s p)) (b (s p)) (l (s p)) (sealed (s p)), s p .pre .1)
+length-of-requires : tie.Need-length-of-requires
+length-of-requires c κs = search needs
 
 same-length : tie.Need-same-length
 same-length c = search needs
@@ -148,29 +138,30 @@ same-length c = search needs
 returns-2 : tie.Need-returns-2
 unfolding writtenOutcome
 returns-2 c =
-    let p = c .before .before .before .before .before .before in
-    let e : Entry = held (m (s p)) (b (s p)) (l (s p)) in
-    let done = behind (shape p) (edgeFields (b (s p)) (l (s p))) (xs (s p)) (p .put-shape .last .0) (c .before .before .put-edges .last .0) (15 + 4 * m (s p)) (shape-long p) (p .put-shape .ensures) (fits p) (c .before .before .put-edges .ensures) in
-    let n : measured (v p) .length-of .result ≡ length (encode e) = measured (v p) .length-of .ensures ∙ sym (long (s p)) in
-    ap₂ (λ k x. record { answer = wrote (k ∷ []); buffers = x ∷ [] }) n (done ∙ ap (λ x. front x (xs (s p))) (whole p))
-    ∙ sym (writes-fits e (xs (s p)) (few (s p)) (omega (arith, long (s p), room (v p))))
+    let w = c .before .before .before in
+    let k = w .before .before .before .before in
+    let s = s (placed k) in
+    let e : Entry = held (m s) (b s) (l s) in
+    let r = room (placed k .before) in
+    let told : c .length-of .result ≡ length (encode e) = c .length-of .ensures ∙ sym (long s) in
+    let done = w .write-around-edges .ensures ∙ ap (λ x. front (encode (held (m s) (b s) x)) (zs k)) (edges-there k)
+    ∙ covered (m s) (b s) (at (placed k)) (n k) (xs s) (ys k) (placed k .edges-at .ensures) (size k) (long-copied k) r (encode e) (long s) in
+    ap₂ (λ i x. record { answer = wrote (i ∷ []); buffers = x ∷ [] }) told done
+    ∙ sym (writes-fits e (xs s) (few s) (omega (arith, long s, r)))
 
 pub write-spec : {M : Type 1} → statement M
 write-spec =
     tie.close
     (tie.spec
-    length-of-requires
+    too-short-requires
     returns
-    no-ends-requires
-    slice-aggregate-level-ends
-    level-ends-requires
-    slice-aggregate-put-shape
-    put-shape-requires
-    mul-at
-    add-at
-    sub-put-edges
-    part-put-edges-start
-    part-put-edges-end
-    put-edges-requires
+    edges-at-requires
+    add-end
+    sub-copy
+    part-copy-start
+    part-copy-end
+    copy-requires
+    write-around-edges-requires
+    length-of-requires
     same-length
     returns-2)
