@@ -8,7 +8,7 @@ use native.Mathlib.Omega.{arith}
 use native.Mathlib.Decide.{decLe, ℕ-discrete}
 use mir.Val.{boolByte}
 use lib.ListN.{length, getD, set, length-set}
-use lib.Pow.{pow-add, shl-shr}
+use lib.Pow.{pow-add}
 use lib.Bits.{bitAnd, bitOr, or-add-and, and-high}
 use lib.Seq.{ext-getD, getD-set-same, getD-set-other, set-getD}
 use lib.Dec.{leb}
@@ -93,20 +93,14 @@ packed-set e o h = rw (at-packed e o h) (go (getD e o false) refl)
 and-bit : (x k : ℕ) → bitAnd x (2 ^ k) ≡ x / 2 ^ k % 2 * 2 ^ k
 and-bit x k = let z : 2 ^ (1 + k) - 2 ^ k ≡ 2 ^ k = rw (pow-add 2 1 k) (omega arith) in rw z at (and-high x 1 k)
 
-shr-is : (k : ℕ) → k ≤ 7 → 128 / 2 ^ k ≡ 2 ^ (7 - k)
-shr-is k h =
-    let z : 7 - k + k ≡ 7 = omega arith in
-    let p : 128 ≡ 2 ^ (7 - k) * 2 ^ k = rw z at (pow-add 2 (7 - k) k) in
-    rw p (shl-shr (2 ^ (7 - k)) k)
-
-pub set-or : (l : List ℕ) (o : ℕ) → set l (o / 8) (bitOr (getD l (o / 8) 0) (128 / 2 ^ (o % 8))) ≡ setBit l o
+pub set-or : (l : List ℕ) (o : ℕ) → set l (o / 8) (bitOr (getD l (o / 8) 0) (2 ^ (7 - o % 8))) ≡ setBit l o
 unfolding setBit bitAt
 set-or l o =
     let x : ℕ = getD l (o / 8) 0 in
     let k : ℕ = 7 - o % 8 in
     let a : x / 2 ^ k % 2 ≡ bit (odd (x / 2 ^ k)) = sym (bit-odd (x / 2 ^ k)) in
     let b : bitAnd x (2 ^ k) ≡ bit (odd (x / 2 ^ k)) * 2 ^ k = rw a at (and-bit x k) in
-    rw (shr-is (o % 8) (omega arith)) (go (odd (x / 2 ^ k)) x k b (or-add-and x (2 ^ k)) refl)
+    go (odd (x / 2 ^ k)) x k b (or-add-and x (2 ^ k)) refl
   where
     go : (c : Bool) (x k : ℕ) → bitAnd x (2 ^ k) ≡ bit c * 2 ^ k → bitOr x (2 ^ k) + bitAnd x (2 ^ k) ≡ x + 2 ^ k → x ≡ getD l (o / 8) 0
         → set l (o / 8) (bitOr x (2 ^ k)) ≡ cond c l (set l (o / 8) (x + 2 ^ k))

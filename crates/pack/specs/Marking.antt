@@ -8,6 +8,7 @@ use lib.Dec.{leb}
 use Rattle.loes.specs.Limits.{maxEdges}
 use Rattle.loes.specs.Bytes.{Bytes, bit, bitAt, tabulate}
 use Rattle.loes.specs.Entry.{keyBytes}
+use Rattle.bits.specs.Tables.{Table}
 
 -- one more from a level on
 pub record Bumped (from m : ℕ) (old new : List ℕ) : Type 0 where
@@ -32,6 +33,10 @@ pub record Starts (m : ℕ) (counts starts : List ℕ) (r : ℕ) : Type 0 where
   pub total : r ≤ maxRecords → r ≡ sumBelow counts m
   pub each : r ≤ maxRecords → (e : ℕ) → e < m → getD starts e 0 ≡ sumBelow counts e
   pub over : maxRecords < r → maxRecords < sumBelow counts m
+
+-- a lent table: for each bit of a byte, the byte with that bit alone
+abbrev pub Masks : List ℕ → Type 0
+Masks t = Table (λ (k : ℕ). 2 ^ (7 - k)) 8 t
 
 -- bytes with bit o set
 unfoldable pub setBit : Bytes → ℕ → Bytes

@@ -12,7 +12,7 @@ ghost use Rattle.loes.specs.Calls.{packCall};
 ghost use Rattle.build.specs.Writing.{writtenOutcome};
 ghost use Rattle.pack.specs.Packing.{Blank, Ready, Planned, Unfilled};
 ghost use Rattle.pack.specs.Rising.{commonPrefix, firstNew, setBelow};
-ghost use Rattle.pack.specs.Marking.{Bumped, running, Starts, setBit, setBits, secondEdges, offsetOf, Room};
+ghost use Rattle.pack.specs.Marking.{Bumped, running, Starts, Masks, setBit, setBits, secondEdges, offsetOf, Room};
 ghost use Rattle.pack.specs.Batch.{SameBytes, FirstDifference, key, previous, KeyThere, KeyChecked, Uncounted, RecordsCounted, Unmarked};
 use bits::EdgeOffset;
 use build::Written;
@@ -202,45 +202,52 @@ fn level_starts(levels: &mut [usize], m: usize) -> usize
 }
 
 // ---- Second pass: the edges are marked
+// The byte with each of its bits set, the most significant first: to be bound once and lent, since a look at it is quicker than a shift.
+fn masks() -> [u8; 8]
+    ensures { λ r. ⌜ Masks r ⌝ }
+{
+    [128, 64, 32, 16, 8, 4, 2, 1]
+}
+
 // Sets bit o.
-fn set_bit(b: &mut [u8], o: EdgeOffset)
-    requires { ⌜ o .0 / 8 < length (now b) ⌝ }
+fn set_bit(b: &mut [u8], o: EdgeOffset, masks: &[u8])
+    requires { ⌜ (o .0 / 8 < length (now b)) × Masks (now masks) ⌝ }
     ensures { λ _. ⌜ now (b .exit) ≡ setBit (now (b .entry)) (o .0) ⌝ }
 {
     let n = o.0;
     let at = n / 8;
     let x = b[at];
-    b[at] = x | (128u8 >> (n % 8));
+    b[at] = x | masks[n % 8];
 }
 
 // The last record of the level above the first new one gets its second edge; there is no such level for the first key.
-fn mark_above(new: usize, cursors: &[usize], edges: &mut [u8])
-    requires { ⌜ (0 < new → (new ≤ length (now cursors)) × (0 < getD (now cursors) (new - 1) 0) × (2 * getD (now cursors) (new - 1) 0 ≤ 8 * length (now edges))) × (length (now edges) ≤ maxEdges / 8) ⌝ }
+fn mark_above(new: usize, cursors: &[usize], edges: &mut [u8], masks: &[u8])
+    requires { ⌜ (0 < new → (new ≤ length (now cursors)) × (0 < getD (now cursors) (new - 1) 0) × (2 * getD (now cursors) (new - 1) 0 ≤ 8 * length (now edges))) × (length (now edges) ≤ maxEdges / 8) × Masks (now masks) ⌝ }
     ensures { λ _. ⌜ now (edges .exit) ≡ setBits (secondEdges (now (cursors .entry))) (new - 1) (new - (new - 1)) (now (edges .entry)) ⌝ }
 {
     if new == 0 {
         return;
     }
     let record = cursors[new - 1];
-    set_bit(edges, EdgeOffset(2 * record - 1));
+    set_bit(edges, EdgeOffset(2 * record - 1), masks);
 }
 
 // Moves the cursors of the levels on which a key has a new record, and sets its edges there and on the level above.
-fn mark_key(key: &[u8], new: usize, m: usize, cursors: &mut [usize], edges: &mut [u8])
-    requires { ⌜ Room m new (now key) (now cursors) (now edges) ⌝ }
+fn mark_key(key: &[u8], new: usize, m: usize, cursors: &mut [usize], edges: &mut [u8], masks: &[u8])
+    requires { ⌜ Room m new (now key) (now cursors) (now edges) × Masks (now masks) ⌝ }
     ensures moved { λ _. ⌜ Bumped new m (now (cursors .entry)) (now (cursors .exit)) ⌝ }
     ensures set { λ _. ⌜ now (edges .exit) ≡ setBits (offsetOf (now (cursors .entry)) new (now (key .entry))) (new - 1) (m - (new - 1)) (now (edges .entry)) ⌝ }
 {
     if m < new {
         return;
     }
-    mark_above(new, cursors, edges);
+    mark_above(new, cursors, edges, masks);
     let mut e = new;
     while e < m {
         let record = cursors[e];
         cursors[e] = record + 1;
         let o = 2 * record + bits::bit_at(key, e) as usize;
-        set_bit(edges, EdgeOffset(o));
+        set_bit(edges, EdgeOffset(o), masks);
         e += 1;
     }
 }
@@ -250,11 +257,12 @@ fn mark_keys(batch: &[u8], n: usize, t: usize, m: usize, cursors: &mut [usize], 
     requires { ⌜ Unmarked m t n (now batch) (now cursors) (now edges) ⌝ }
     ensures { λ _. ⌜ now (edges .exit) ≡ packBits (edgesIn m (setBelow (key m (now (batch .entry))) n)) ⌝ }
 {
+    let masks = masks();
     let mut i = 0;
     while i < n {
         let new = first_new(batch, i, t, m);
         let at = t * i;
-        mark_key(&batch[at..], new, m, cursors, edges);
+        mark_key(&batch[at..], new, m, cursors, edges, &masks);
         i += 1;
     }
 }

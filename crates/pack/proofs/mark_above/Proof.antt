@@ -9,13 +9,13 @@ use borrow.Author.Needs.{needs}
 use Rattle.pack.proofs.mark_above.Statement.{statement}
 use Rattle.pack.proofs.mark_above.Tie as tie
 
-here : (c : tie.Else1) → let a = c .before .before .before .args in
+here : (c : tie.Else1) → let a = c .before .before .before .before .args in
     (a .new ≤ length (now (a .cursors))) × (0 < getD (now (a .cursors)) (a .new - 1) 0) × (2 * getD (now (a .cursors)) (a .new - 1) 0 ≤ 8 * length (now (a .edges)))
-here c = c .before .before .before .pre .0 (omega (arith, c .if1 .left))
+here c = c .before .before .before .before .pre .0 (omega (arith, c .if1 .left))
 
 returns : tie.Need-returns
 returns c =
-    let a = c .before .before .before .args in
+    let a = c .before .before .before .before .args in
     let z : a .new - (a .new - 1) ≡ a .new - 1 - (a .new - 1) = omega (arith, c .if1 .taken) in
     rw z (bits-past (secondEdges (now (a .cursors))) (a .new - 1) (a .new - 1) (now (a .edges)) (omega arith))
 
@@ -23,19 +23,19 @@ sub-record : tie.Need-sub-record
 sub-record c = search needs
 
 mul-record : tie.Need-mul-record
-mul-record c = omega (arith, here c .0, c .before .before .before .good)
+mul-record c = omega (arith, here c .0, c .before .before .before .before .good)
 
 shared-slice-read-record : tie.Need-shared-slice-read-record
 shared-slice-read-record c = omega (arith, here (c .before) .0, c .before .if1 .left)
 
-mul-t6 : tie.Need-mul-t6
-mul-t6 c = let e = c .before .before in omega (arith, here e .2, e .before .before .before .pre .1)
+mul-t7 : tie.Need-mul-t7
+mul-t7 c = let e = c .before .before in omega (arith, here e .2, e .before .before .before .before .pre .1)
 
-sub-t9 : tie.Need-sub-t9
-sub-t9 c = omega (arith, here (c .before .before) .1)
+sub-t10 : tie.Need-sub-t10
+sub-t10 c = omega (arith, here (c .before .before) .1)
 
 set-bit-requires : tie.Need-set-bit-requires
-set-bit-requires c κs = let e = c .before .before in omega (arith, here e .1, here e .2)
+set-bit-requires c κs = let e = c .before .before in (omega (arith, here e .1, here e .2), e .before .before .before .before .pre .2)
 
 same-length : tie.Need-same-length
 same-length c = search needs
@@ -44,7 +44,7 @@ returns-2 : tie.Need-returns-2
 unfolding secondEdges
 returns-2 c =
     let e = c .before .before .before .before .before in
-    let a = e .before .before .before .args in
+    let a = e .before .before .before .before .args in
     let o = secondEdges (now (a .cursors)) in
     let z : a .new - 1 + 1 ≡ a .new = omega (arith, e .if1 .left) in
     rw z at (bits-more o (a .new - 1) (a .new - 1) (now (a .edges)) (now (a .edges)) (c .before .before .set-bit .last .0) (omega arith) (bits-past o (a .new - 1) (a .new - 1) (now (a .edges)) (omega arith)) (c .before .before .set-bit .ensures))
@@ -57,8 +57,8 @@ mark-above-spec =
     sub-record
     mul-record
     shared-slice-read-record
-    mul-t6
-    sub-t9
+    mul-t7
+    sub-t10
     set-bit-requires
     same-length
     returns-2)

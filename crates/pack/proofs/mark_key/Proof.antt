@@ -18,13 +18,13 @@ use Rattle.pack.proofs.mark_key.Statement.{statement}
 use Rattle.pack.proofs.mark_key.Tie as tie
 
 abbrev Inv-loop : tie.InvT-loop
-Inv-loop key new m cursors₀ edges₀ e₀ cursors edges e =
+Inv-loop key new m cursors₀ edges₀ masks e₀ cursors edges e =
     (new ≤ e) × (e ≤ m) × (length cursors ≡ length cursors₀) × (length edges ≡ length edges₀)
     × ((x : ℕ) → x < e → getD cursors x 0 ≡ getD cursors₀ x 0 + bit (leb new x)) × ((x : ℕ) → e ≤ x → getD cursors x 0 ≡ getD cursors₀ x 0)
     × (edges ≡ setBits (offsetOf cursors₀ new key) new (e - new) edges₀)
 
 abbrev μ-loop : tie.MeasureT-loop
-μ-loop key new m cursors₀ edges₀ e₀ cursors edges e = m - e
+μ-loop key new m cursors₀ edges₀ masks e₀ cursors edges e = m - e
 
 -- the record of a turn lies in the edge bytes
 module _ (w : tie.In-loop Inv-loop μ-loop) where
@@ -35,7 +35,7 @@ module _ (w : tie.In-loop Inv-loop μ-loop) where
   above = head .before .before .before
 
   abbrev start : tie.Start Inv-loop μ-loop
-  start = above .before .before .before .before .before .before .before
+  start = above .before .before .before .before .before .before .before .before
 
   abbrev at : ℕ
   at = head .loop .e
@@ -50,14 +50,14 @@ module _ (w : tie.In-loop Inv-loop μ-loop) where
   newer = ap bit (le-leb (start .args .new) at (head .loop .inv .0))
 
   low : 2 * (next + 1) ≤ 8 * length (now (start .args .edges))
-  low = omega (arith, next-is, newer, start .pre .fit at (w .loop-test .taken))
+  low = omega (arith, next-is, newer, start .pre .0 .fit at (w .loop-test .taken))
 
   few : 2 * (next + 1) ≤ 524280
-  few = omega (arith, low, start .pre .small)
+  few = omega (arith, low, start .pre .0 .small)
 
 returns : tie.Need-returns Inv-loop μ-loop
 returns c =
-    let a = c .before .before .before .before .args in
+    let a = c .before .before .before .before .before .args in
     (record { long = refl; each = λ e l. rw (lt-leb (a .new) e (omega (arith, c .if1 .taken))) (omega arith) }, bits-past (offsetOf (now (a .cursors)) (a .new) (now (a .key))) (a .new - 1) (a .m) (now (a .edges)) (omega (arith, c .if1 .taken)))
 
 -- the level above has a record, and the key goes on with 1 there
@@ -65,41 +65,41 @@ up : (s : tie.Start Inv-loop μ-loop) → s .args .new ≤ s .args .m → 0 < s 
     → (s .args .new ≤ length (now (s .args .cursors))) × (0 < getD (now (s .args .cursors)) (s .args .new - 1) 0) × (2 * getD (now (s .args .cursors)) (s .args .new - 1) 0 ≤ 8 * length (now (s .args .edges)))
 up s h p =
     let q = ap bit (lt-leb (s .args .new) (s .args .new - 1) (omega arith)) in
-    (omega (arith, s .pre .long), omega (arith, q, s .pre .some (s .args .new - 1) (omega arith)), omega (arith, q, s .pre .fit (s .args .new - 1) (omega arith)))
+    (omega (arith, s .pre .0 .long), omega (arith, q, s .pre .0 .some (s .args .new - 1) (omega arith)), omega (arith, q, s .pre .0 .fit (s .args .new - 1) (omega arith)))
 
 mark-above-requires : tie.Need-mark-above-requires Inv-loop μ-loop
 mark-above-requires c κs =
     let e = c .before .before in
-    let s = e .before .before .before .before in
-    (λ p. up s (e .if1 .left) p, s .pre .small)
+    let s = e .before .before .before .before .before in
+    (λ p. up s (e .if1 .left) p, s .pre .0 .small, s .pre .1)
 
 loop-holds : tie.Need-loop-holds Inv-loop μ-loop
 loop-holds c =
     let e = c .before .before .before .before .before in
-    let a = e .before .before .before .before .args in
+    let a = e .before .before .before .before .before .args in
     (omega arith, e .if1 .left, refl, refl, λ x l. rw (lt-leb (a .new) x l) (omega arith), λ x l. refl, bits-past (offsetOf (now (a .cursors)) (a .new) (now (a .key))) (a .new) (a .new) _ (omega arith))
 
 mul-record : tie.Need-mul-record Inv-loop μ-loop
-mul-record c = omega (arith, start c .good, start c .pre .long, c .loop-test .taken)
+mul-record c = omega (arith, start c .good, start c .pre .0 .long, c .loop-test .taken)
 
 slice-read-record : tie.Need-slice-read-record Inv-loop μ-loop
-slice-read-record c = let w = c .before in omega (arith, w .before .loop .inv .2, start w .pre .long, w .loop-test .taken)
+slice-read-record c = let w = c .before in omega (arith, w .before .loop .inv .2, start w .pre .0 .long, w .loop-test .taken)
 
 add-cursors : tie.Need-add-cursors Inv-loop μ-loop
 add-cursors c = record { fits = omega (arith, few (c .before)) }
 
 mul-cursors : tie.Need-mul-cursors Inv-loop μ-loop
-mul-cursors c = let w = c .before in omega (arith, start w .good, start w .pre .long, w .loop-test .taken)
+mul-cursors c = let w = c .before in omega (arith, start w .good, start w .pre .0 .long, w .loop-test .taken)
 
 slice-write-cursors : tie.Need-slice-write-cursors Inv-loop μ-loop
-slice-write-cursors c = let w = c .before in omega (arith, w .before .loop .inv .2, start w .pre .long, w .loop-test .taken)
+slice-write-cursors c = let w = c .before in omega (arith, w .before .loop .inv .2, start w .pre .0 .long, w .loop-test .taken)
 
 mul-o : tie.Need-mul-o Inv-loop μ-loop
 mul-o c = record { fits = omega (arith, few (c .before)) }
 
 bit-at-requires : tie.Need-bit-at-requires Inv-loop μ-loop
 unfolding keyBytes started
-bit-at-requires c κs = let w = c .before in omega (arith, start w .pre .far, w .loop-test .taken)
+bit-at-requires c κs = let w = c .before in omega (arith, start w .pre .0 .far, w .loop-test .taken)
 
 cast-o : tie.Need-cast-o Inv-loop μ-loop
 cast-o c = tt
@@ -111,7 +111,7 @@ set-bit-requires : tie.Need-set-bit-requires Inv-loop μ-loop
 set-bit-requires c κs =
     let b = c .before in
     let w = b .before .before in
-    omega (arith, low w, head w .loop .inv .3, above w .mark-above .kept .1 .1 .0, byte-bit (b .bit-at .result), bit-le (b .bit-at .result))
+    (omega (arith, low w, head w .loop .inv .3, above w .mark-above .kept .1 .1 .0, byte-bit (b .bit-at .result), bit-le (b .bit-at .result)), start w .pre .1)
 
 -- the code's offset
 offset-is : (b : tie.After-bit-at Inv-loop μ-loop) → let w = b .before .before in let a = start w .args in
@@ -140,7 +140,7 @@ loop-again c =
       d .set-bit .kept .0 ∙ h .loop .inv .3,
       below-more (λ x. getD (set l (at w) v) x 0 ≡ getD (now (a .cursors)) x 0 + bit (leb (a .new) x)) (at w)
           (λ x q. getD-set-other l (at w) x v 0 (λ z. omega arith) ∙ h .loop .inv .4 x q)
-          (getD-set-same l (at w) v 0 (omega (arith, h .loop .inv .2, start w .pre .long, w .loop-test .taken)) ∙ omega (arith, next-is w, newer w)),
+          (getD-set-same l (at w) v 0 (omega (arith, h .loop .inv .2, start w .pre .0 .long, w .loop-test .taken)) ∙ omega (arith, next-is w, newer w)),
       λ x q. getD-set-other l (at w) x v 0 (λ z. omega arith) ∙ h .loop .inv .5 x (omega arith),
       bits-more (offsetOf (now (a .cursors)) (a .new) (now (a .key))) (a .new) (at w) _ (h .loop .edges) (d .set-bit .last .0) (h .loop .inv .0) (h .loop .inv .6)
           (d .set-bit .ensures ∙ ap (setBit (h .loop .edges)) (offset-is b)),
@@ -157,13 +157,13 @@ returns-2 c =
     let h = c .before in
     let k = h .before .before .before in
     let e = k .before .before .before in
-    let s = e .before .before .before .before in
+    let s = e .before .before .before .before .before in
     let a = s .args in
     let z : h .loop .e ≡ a .m = omega (arith, c .loop-test .left, h .loop .inv .1) in
     let o = offsetOf (now (a .cursors)) (a .new) (now (a .key)) in (
       record { long = h .loop .inv .2; each = λ e l. h .loop .inv .4 e (omega arith) },
       rw z at (h .loop .inv .6) ∙ bits-all o (a .new) (a .m) (now (a .edges)) _ (e .if1 .left)
-          (k .mark-above .ensures ∙ above-is (now (a .cursors)) (a .new) (now (a .key)) (now (a .edges)) (λ p. (up s (e .if1 .left) p .1, s .pre .later p (e .if1 .left)))),
+          (k .mark-above .ensures ∙ above-is (now (a .cursors)) (a .new) (now (a .key)) (now (a .edges)) (λ p. (up s (e .if1 .left) p .1, s .pre .0 .later p (e .if1 .left)))),
     )
 
 pub mark-key-spec : {M : Type 1} → statement M

@@ -20,13 +20,13 @@ abbrev base : ℕ → KeySet → ℕ → ℕ
 base m s e = recordsBefore e m s
 
 abbrev Inv-loop : tie.InvT-loop
-Inv-loop batch n t m cursors₀ edges₀ i₀ cursors edges i =
+Inv-loop batch n t m cursors₀ edges₀ masks i₀ cursors edges i =
     (i ≤ n) × (length cursors ≡ length cursors₀) × (length edges ≡ length edges₀)
     × Counted m (base m (setBelow (key m batch) n)) (key m batch) i cursors
     × (edges ≡ packBits (markedEdges m m (setBelow (key m batch) n) (λ (x : ℕ). setBelow (key m batch) i)))
 
 abbrev μ-loop : tie.MeasureT-loop
-μ-loop batch n t m cursors₀ edges₀ i₀ cursors edges i = n - i
+μ-loop batch n t m cursors₀ edges₀ masks i₀ cursors edges i = n - i
 
 -- a turn: its key, and that there is room for it
 module _ (w : tie.In-loop Inv-loop μ-loop) where
@@ -34,7 +34,7 @@ module _ (w : tie.In-loop Inv-loop μ-loop) where
   head = w .before
 
   abbrev start : tie.Start Inv-loop μ-loop
-  start = head .before .before .before .before
+  start = head .before .before .before .before .before
 
   abbrev m : ℕ
   m = start .args .m
@@ -60,9 +60,12 @@ module _ (w : tie.In-loop Inv-loop μ-loop) where
   long : length (head .loop .edges) ≡ started 8 (2 * recordsBefore m m (setBelow f n))
   long = head .loop .inv .2 ∙ ap length (start .pre .clear) ∙ length-replicate _ 0
 
+masks-requires : tie.Need-masks-requires Inv-loop μ-loop
+masks-requires c κs = search needs
+
 loop-holds : tie.Need-loop-holds Inv-loop μ-loop
 loop-holds c =
-    let s = c .before .before .before in
+    let s = c .before .before .before .before in
     let g = key (s .args .m) (now (s .args .batch)) in
     let S = setBelow g (s .args .n) in
     (omega arith, refl, refl, none-yet (s .args .m) (base (s .args .m) S) g (now (s .args .cursors)) (s .pre .starts), s .pre .clear ∙ sym (mark-start (s .args .m) S g))
@@ -82,15 +85,20 @@ part-mark-key-start c = omega (arith, room (c .before))
 part-mark-key-end : tie.Need-part-mark-key-end Inv-loop μ-loop
 part-mark-key-end c = search needs
 
+slice-aggregate-mark-key : tie.Need-slice-aggregate-mark-key Inv-loop μ-loop
+slice-aggregate-mark-key c = search needs
+
 mark-key-requires : tie.Need-mark-key-requires Inv-loop μ-loop
 mark-key-requires c κs =
-    let g = c .before .before .before in
+    let g = c .before .before .before .before in
     let w = g .before in
-    let s = start w in
-    room-mark (m w) (n w) (f w) (s .pre .rising) (i w) (g .first-new .result) (head w .loop .cursors) (w .loop-test .taken) (head w .loop .inv .3) (g .first-new .ensures) _ (head w .loop .edges)
-    (key-lent (m w) (s .args .t) (i w) (bytes w) (there w))
-    (omega (arith, room w, s .pre .batch .size, length-lent (bytes w) (s .args .t * i w)))
-    (omega (arith, s .pre .long, head w .loop .inv .1)) (s .pre .few) (long w)
+    let s = start w in (
+      room-mark (m w) (n w) (f w) (s .pre .rising) (i w) (g .first-new .result) (head w .loop .cursors) (w .loop-test .taken) (head w .loop .inv .3) (g .first-new .ensures) _ (head w .loop .edges)
+          (key-lent (m w) (s .args .t) (i w) (bytes w) (there w))
+          (omega (arith, room w, s .pre .batch .size, length-lent (bytes w) (s .args .t * i w)))
+          (omega (arith, s .pre .long, head w .loop .inv .1)) (s .pre .few) (long w),
+      head w .before .masks .ensures,
+    )
 
 add-i : tie.Need-add-i Inv-loop μ-loop
 add-i c = search needs
@@ -101,7 +109,7 @@ loop-less c = search needs
 loop-again : tie.Need-loop-again Inv-loop μ-loop
 loop-again c =
     let k = c .before .before .before .before in
-    let g = k .before .before .before .before in
+    let g = k .before .before .before .before .before in
     let w = g .before in
     let h = head w in
     let s = start w in (
@@ -123,7 +131,7 @@ same-length-2 c = search needs
 returns : tie.Need-returns Inv-loop μ-loop
 returns c =
     let h = c .before in
-    let s = h .before .before .before .before in
+    let s = h .before .before .before .before .before in
     let S = setBelow (key (s .args .m) (now (s .args .batch))) in
     let z : h .loop .i ≡ s .args .n = omega (arith, c .loop-test .left, h .loop .inv .0) in
     h .loop .inv .4 ∙ ap (λ (i : ℕ). packBits (markedEdges (s .args .m) (s .args .m) (S (s .args .n)) (λ (x : ℕ). S i))) z ∙ mark-end (s .args .m) (S (s .args .n))
@@ -134,12 +142,14 @@ mark-keys-spec =
     (tie.spec
     Inv-loop
     μ-loop
+    masks-requires
     loop-holds
     first-new-requires
     mul-at
     sub-mark-key
     part-mark-key-start
     part-mark-key-end
+    slice-aggregate-mark-key
     mark-key-requires
     add-i
     loop-less
