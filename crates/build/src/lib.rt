@@ -310,7 +310,18 @@ pub fn write_around_edges(m: usize, b: usize, t: &[u8], out: &mut [u8])
     put_edges(&mut out[field4..], t, b);
 }
 
-// The encoding of the entry that edge bytes hold, at the front of the buffer, if it fits: nothing is written before that is known.
+// The same from edge bytes elsewhere, which are put in their place first.
+pub fn write_fitting(m: usize, b: usize, edges: &[u8], t: &[u8], out: &mut [u8])
+    requires { ⌜ (endOf m b ≤ length (now out)) × Sealed m b (now edges) × Tallies (now t) ⌝ }
+    ensures { λ _. ⌜ now (out .exit) ≡ front (encode (held m b (now (edges .entry)))) (now (out .entry)) ⌝ }
+{
+    let at = edges_at(m);
+    let end = at + edges.len();
+    let copied = bytes::copy(edges, &mut out[at..end]);
+    write_around_edges(m, b, t, out);
+}
+
+// The same if it fits: nothing is written before that is known.
 pub fn write(m: usize, b: usize, edges: &[u8], t: &[u8], out: &mut [u8]) -> Written
     requires { ⌜ Sealed m b (now edges) × Tallies (now t) ⌝ }
     ensures { λ r. ⌜ writtenOutcome r (now (out .exit)) ≡ writes [] (held m b (now (edges .entry)) ∷ []) (now (out .entry) ∷ []) .outcome ⌝ }
@@ -318,9 +329,6 @@ pub fn write(m: usize, b: usize, edges: &[u8], t: &[u8], out: &mut [u8]) -> Writ
     if too_short(m, b, out.len()) {
         return Written::Refused(loes::refusal::SHORT_BUFFER);
     }
-    let at = edges_at(m);
-    let end = at + edges.len();
-    let copied = bytes::copy(edges, &mut out[at..end]);
-    write_around_edges(m, b, t, out);
+    write_fitting(m, b, edges, t, out);
     Written::Length(length_of(m, b))
 }
