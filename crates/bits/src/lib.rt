@@ -16,7 +16,7 @@ pub mod tables;
 // An offset in the edge sequence.
 #[repr(C)]
 pub struct EdgeOffset(pub usize);
-// The number of a record in the edge sequence.
+// The number of a record in a sequence of records.
 pub struct RecordIndex(pub usize);
 // A key's index among the members in order (document 01: lot).
 #[repr(C)]
