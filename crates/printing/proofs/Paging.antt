@@ -8,6 +8,7 @@ use lib.Seq.{take-at}
 use Rattle.loes.specs.Limits.{maxWidth}
 use Rattle.loes.specs.Bytes.{Bytes, join, started, packBits, front}
 use Rattle.loes.specs.Entry.{Entry, keyBytes, keysOf, count, edgeCount, Valid}
+use Rattle.loes.specs.Read.{entryIn}
 use Rattle.loes.specs.Model.{wroteKey}
 use Rattle.loes.specs.Cursor.{Advanced, before, padded, isCursorOf, nextIndex, advance}
 use Rattle.loes.proofs.Members.{key-bytes}
@@ -95,7 +96,7 @@ rest e p texts (page _ r q d d' ts z f h more) =
 
 pub pages-are-lines : PagesAreLines
 unfolding linesOf
-pages-are-lines e p texts z t =
-    let r = rest e p texts t in
-    let n : r .0 ≡ count e = omega (arith, r .1) in
-    ap (λ l. numbersLine (e .width) (count e) (edgeCount e) ++ l) (r .2 ∙ ap₂ (linesFrom e) z n)
+pages-are-lines l e o p texts z t =
+    let r = rest (entryIn l) p texts t in
+    let n : r .0 ≡ count (entryIn l) = omega (arith, r .1) in
+    rw (o .width, o .count, o .bits) (ap (λ x. numbersLine (entryIn l .width) (count (entryIn l)) (edgeCount (entryIn l)) ++ x) (r .2 ∙ ap₂ (linesFrom (entryIn l)) z n))

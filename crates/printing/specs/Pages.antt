@@ -5,8 +5,11 @@ use mathlib.Core.Bool.{true}
 use mathlib.Core.List.{List, [], _∷_, _++_}
 use lib.ListN.{length, take}
 use Rattle.loes.specs.Bytes.{Bytes, join}
-use Rattle.loes.specs.Entry.{Entry, count, edgeCount}
+use Rattle.loes.specs.Entry.{Entry, count}
+use Rattle.loes.specs.Read.{entryIn}
 use Rattle.loes.specs.Cursor.{isCursorOf, nextIndex}
+use Rattle.encoding.specs.declared.Encoding.{Encoding}
+use Rattle.encoding.specs.Opened.{Opens}
 use Rattle.cursor.specs.Steps.{cursorOf}
 use Rattle.printing.specs.declared.Page.{Page}
 use Rattle.printing.specs.Text.{numbersLine, memberLine, keyBytesAt, linesFrom, linesOf, maxLine, Puts}
@@ -30,16 +33,17 @@ pub record Fills (e : Entry) (p : Page) (d : Bytes) (r : Page) (d' : Bytes) : Ty
   pub puts : Puts (p .length) (linesFrom e (p .index .0) lines) d (r .length) d'
   pub stands : Stands e r
 
--- it comes to the last, or has room for no other
+-- r comes to the last member, or has room for no other line
 abbrev pub Full : Entry → Page → Bytes → Type 0
 Full e r d' = r .index .0 < count e → length d' < r .length + maxLine
 
--- the texts of pages that were filled from the front, each going on where the one before ended, up to the last member
+-- the texts of pages that were filled from the front, each from where the one before ended, up to the last member
 pub data Printed (e : Entry) : Page → List Bytes → Type 0 where
   over : (p : Page) → p .index .0 ≡ count e → Printed e p []
   page : (p r q : Page) (d d' : Bytes) (texts : List Bytes) → p .length ≡ 0 → Fills e p d r d' → q .index .0 ≡ r .index .0 → Printed e q texts
       → Printed e p (take (r .length) d' ∷ texts)
 
--- behind the first line they are all the lines of the entry
+-- from the first member on, behind the line of an opened encoding's numbers, they are all the lines of its entry
 abbrev pub PagesAreLines : Type 0
-PagesAreLines = (e : Entry) (p : Page) (texts : List Bytes) → p .index .0 ≡ 0 → Printed e p texts → numbersLine (e .width) (count e) (edgeCount e) ++ join texts ≡ linesOf e
+PagesAreLines = (l : Bytes) (e : Encoding) → Opens l e → (p : Page) (texts : List Bytes) → p .index .0 ≡ 0 → Printed (entryIn l) p texts
+    → numbersLine (e .width) (e .count) (e .bits) ++ join texts ≡ linesOf (entryIn l)

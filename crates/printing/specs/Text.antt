@@ -72,6 +72,7 @@ abbrev pub maxLine : ℕ
 maxLine = 96
 
 -- ---- All lines of an entry
+-- the bytes of its key of index i
 unfoldable pub keyBytesAt : Entry → ℕ → Bytes
 keyBytesAt e i = packBits (getD (keysOf e) i [])
 
@@ -80,6 +81,7 @@ unfoldable pub linesFrom : Entry → ℕ → ℕ → Bytes
 linesFrom e i zero = []
 linesFrom e i (suc n) = linesFrom e i n ++ memberLine (i + n) (keyBytesAt e (i + n))
 
+-- the first line, then one for each member, by index
 unfoldable pub linesOf : Entry → Bytes
 linesOf e = numbersLine (e .width) (count e) (edgeCount e) ++ linesFrom e 0 (count e)
 

@@ -110,7 +110,7 @@ pub fn put_numbers(text: &mut [u8], at: usize, e: Encoding) -> usize
     put(text, end, LINE_FEED)
 }
 
-// A member's index and key.
+// A member: its index and its key.
 pub fn put_member(text: &mut [u8], at: usize, index: MemberIndex, key: &[u8]) -> usize
     requires { ⌜ at + length (memberLine (index .0) (now key)) ≤ length (now text) ⌝ }
     ensures { λ r. ⌜ Puts at (memberLine (index .0) (now (key .entry))) (now (text .entry)) r (now (text .exit)) ⌝ }
@@ -121,7 +121,7 @@ pub fn put_member(text: &mut [u8], at: usize, index: MemberIndex, key: &[u8]) ->
     put(text, end, LINE_FEED)
 }
 
-// The number of a refusal.
+// A refusal: its number.
 pub fn put_refused(text: &mut [u8], at: usize, k: u8) -> usize
     requires { ⌜ at + length (refusedLine k) ≤ length (now text) ⌝ }
     ensures { λ r. ⌜ Puts at (refusedLine k) (now (text .entry)) r (now (text .exit)) ⌝ }
@@ -185,7 +185,7 @@ pub fn fill(l: &[u8], t: &[u8], e: Encoding, from: Page, text: &mut [u8]) -> Pag
     p
 }
 
-// ---- Writing
+// ---- Writing: no contract speaks of what leaves the process, or enters it
 fn flush(text: &[u8], n: usize)
     requires { ⌜ n ≤ length (now text) ⌝ }
 {
@@ -211,7 +211,7 @@ fn print_page(l: &[u8], t: &[u8], e: Encoding, from: Page) -> Page
     next
 }
 
-// Prints the lines of the members, page by page, and returns how many.
+// Prints the lines of the members, page by page, and returns the index that it came to.
 fn print_members(l: &[u8], t: &[u8], e: Encoding) -> MemberIndex
     requires { ⌜ Opens (now l) e × Tallies (now t) ⌝ }
     ensures { λ r. ⌜ r .0 ≡ count (entryIn (now (l .entry))) ⌝ }
