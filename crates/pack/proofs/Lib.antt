@@ -1,6 +1,7 @@
 pub mod Grow
 pub mod Marked
 pub mod SetBits
+pub mod Rows
 pub mod Differences
 pub mod Agreeing
 pub mod Prefixes
@@ -9,6 +10,7 @@ pub mod Order
 pub mod KeyTests
 pub mod Pass
 pub mod Turn
+pub mod Levels
 pub mod Sums
 pub mod Batches
 pub mod Valid

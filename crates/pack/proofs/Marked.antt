@@ -178,32 +178,46 @@ edges-set (suc d) c k m s T U l e h hd other this =
     ]
 
 -- levels below c have the new key, the others have not
-unfoldable pub insertedAbove : KeySet → Key → ℕ → ℕ → KeySet
-insertedAbove t k c d = cond (ltb d c) (insert t k) t
+unfoldable pub insertedAbove : (ℕ → KeySet) → Key → ℕ → ℕ → KeySet
+insertedAbove T k c d = cond (ltb d c) (insert (T d) k) (T d)
 
-pub mark-step : (c : ℕ) (k : Key) (m : ℕ) (s t : KeySet) → length k ≡ m → s k ≡ true → c < m
-    → (edgeOffset c k m s < length (markedEdges m m s (insertedAbove t k c))) × (markedEdges m m s (insertedAbove t k (suc c)) ≡ set (markedEdges m m s (insertedAbove t k c)) (edgeOffset c k m s) true)
+pub mark-step : (c : ℕ) (k : Key) (m : ℕ) (s : KeySet) (T : ℕ → KeySet) → length k ≡ m → s k ≡ true → c < m
+    → (edgeOffset c k m s < length (markedEdges m m s (insertedAbove T k c))) × (markedEdges m m s (insertedAbove T k (suc c)) ≡ set (markedEdges m m s (insertedAbove T k c)) (edgeOffset c k m s) true)
 unfolding insertedAbove
-mark-step c k m s t l e h =
-    let other : (x : ℕ) → (x ≡ c → ⊥) → insertedAbove t k (suc c) x ≡ insertedAbove t k c x = λ x n.
+mark-step c k m s T l e h =
+    let other : (x : ℕ) → (x ≡ c → ⊥) → insertedAbove T k (suc c) x ≡ insertedAbove T k c x = λ x n.
     elim (decLe (suc x) c) [
       | yes y ↦ rw (lt-ltb x c y, lt-ltb x (suc c) (omega arith))
       | no y ↦ let z : suc c ≤ x = omega (arith, n) in rw (le-ltb x c (omega arith), le-ltb x (suc c) z)
     ] in
-    let this : insertedAbove t k (suc c) c ≡ insert (insertedAbove t k c c) k = rw (lt-ltb c (suc c) (omega arith), le-ltb c c (omega arith)) in
-    edges-set m c k m s (insertedAbove t k c) (insertedAbove t k (suc c)) l e h (omega arith) other this
+    let this : insertedAbove T k (suc c) c ≡ insert (insertedAbove T k c c) k = rw (lt-ltb c (suc c) (omega arith), le-ltb c c (omega arith)) in
+    edges-set m c k m s (insertedAbove T k c) (insertedAbove T k (suc c)) l e h (omega arith) other this
 
 -- before the first level that is new, nothing changes
-pub mark-first : (c : ℕ) (k : Key) (m : ℕ) (s t : KeySet) → length k ≡ m → c ≤ m → ((x : ℕ) → x < c → hasPrefix (take (suc x) k) m t ≡ true)
-    → markedEdges m m s (insertedAbove t k c) ≡ markedEdges m m s (λ (x : ℕ). t)
+pub mark-first : (c : ℕ) (k : Key) (m : ℕ) (s : KeySet) (T : ℕ → KeySet) → length k ≡ m → c ≤ m → ((x : ℕ) → x < c → hasPrefix (take (suc x) k) m (T x) ≡ true)
+    → markedEdges m m s (insertedAbove T k c) ≡ markedEdges m m s T
 unfolding insertedAbove
-mark-first c k m s t l h f =
-    edges-ext m m s (insertedAbove t k c) (λ (x : ℕ). t) (λ x lx.
+mark-first c k m s T l h f =
+    edges-ext m m s (insertedAbove T k c) T (λ x lx.
     elim (decLe (suc x) c) [
-      | yes y ↦ rw (lt-ltb x c y) (marked-same x k m s t l (f x y))
+      | yes y ↦ rw (lt-ltb x c y) (marked-same x k m s (T x) l (f x y))
       | no y ↦ rw (le-ltb x c (omega arith))
     ])
 
-pub mark-last : (k : Key) (m : ℕ) (s t : KeySet) → markedEdges m m s (insertedAbove t k m) ≡ markedEdges m m s (λ (x : ℕ). insert t k)
+-- ---- of some levels one set is marked, of those behind them another
+abbrev pub splitAt : ℕ → KeySet → KeySet → ℕ → KeySet
+splitAt top t u x = cond (ltb x top) t u
+
+pub mark-last : (k : Key) (m top : ℕ) (s t u : KeySet) → markedEdges m m s (insertedAbove (splitAt top t u) k top) ≡ markedEdges m m s (splitAt top (insert t k) u)
 unfolding insertedAbove
-mark-last k m s t = edges-ext m m s (insertedAbove t k m) (λ (x : ℕ). insert t k) (λ x lx. rw (lt-ltb x m lx))
+mark-last k m top s t u = edges-ext m m s (insertedAbove (splitAt top t u) k top) (splitAt top (insert t k) u) (λ x lx.
+    elim (decLe (suc x) top) [
+      | yes y ↦ rw (lt-ltb x top y)
+      | no y ↦ rw (le-ltb x top (omega arith))
+    ])
+
+pub split-all : (m : ℕ) (s t u : KeySet) → markedEdges m m s (splitAt m t u) ≡ markedEdges m m s (λ (x : ℕ). t)
+split-all m s t u = edges-ext m m s (splitAt m t u) (λ (x : ℕ). t) (λ x lx. rw (lt-ltb x m lx))
+
+pub split-same : (m top : ℕ) (s t : KeySet) → markedEdges m m s (splitAt top t t) ≡ markedEdges m m s (λ (x : ℕ). t)
+split-same m top s t = edges-ext m m s (splitAt top t t) (λ (x : ℕ). t) (λ x lx. elim (decLe (suc x) top) [ yes y ↦ rw (lt-ltb x top y) | no y ↦ rw (le-ltb x top (omega arith)) ])

@@ -7,7 +7,7 @@ use native.Mathlib.Omega.{arith}
 use native.Mathlib.Decide.{decLe}
 use lib.ListN.{length, take, getD, set, replicate, length-replicate, getD-replicate, replicate-append-replicate, List·getD-eq-default}
 use lib.Seq.{ext-getD}
-use borrow.Author.Tests.{lt-leb, not-false}
+use borrow.Author.Tests.{lt-leb, lt-ltb, not-false}
 use Rattle.loes.specs.Bytes.{bit, tabulate, bitsValue, byteOf, packBits, started}
 use Rattle.loes.specs.Keys.{Key, KeySet}
 use Rattle.loes.specs.Edges.{recordBits, edges}
@@ -20,39 +20,39 @@ use Rattle.loes.proofs.Bits.{tabulate-ext}
 use Rattle.pack.specs.Rising.{firstNew, setBelow, Rising}
 use Rattle.pack.specs.Marking.{setBits}
 use Rattle.pack.proofs.Grow.{inhabited-none, below-zero, below-suc, in-below, found-before, place}
-use Rattle.pack.proofs.Marked.{marked, markedEdges, edges-all, edgeOffset, insertedAbove, mark-step, mark-first, mark-last}
+use Rattle.pack.proofs.Marked.{marked, markedEdges, edges-all, edgeOffset, insertedAbove, splitAt, mark-step, mark-first, mark-last}
 use Rattle.pack.proofs.Prefixes.{common-le}
 use Rattle.pack.proofs.SetBits.{packed-set, at-byte}
 
-pub bits-edges : (o : ℕ → ℕ) (from n : ℕ) (k : Key) (m : ℕ) (s t : KeySet) → length k ≡ m → s k ≡ true → from + n ≤ m
-    → ((e : ℕ) → e < m → o e ≡ edgeOffset e k m s)
-    → setBits o from n (packBits (markedEdges m m s (insertedAbove t k from))) ≡ packBits (markedEdges m m s (insertedAbove t k (from + n)))
+pub bits-edges : (o : ℕ → ℕ) (from n : ℕ) (k : Key) (m : ℕ) (s : KeySet) (T : ℕ → KeySet) → length k ≡ m → s k ≡ true → from + n ≤ m
+    → ((e : ℕ) → e < from + n → o e ≡ edgeOffset e k m s)
+    → setBits o from n (packBits (markedEdges m m s (insertedAbove T k from))) ≡ packBits (markedEdges m m s (insertedAbove T k (from + n)))
 unfolding setBits
-bits-edges o from zero k m s t l e h at = let z : from + 0 ≡ from = omega arith in rw z
-bits-edges o from (suc n) k m s t l e h at =
+bits-edges o from zero k m s T l e h at = let z : from + 0 ≡ from = omega arith in rw z
+bits-edges o from (suc n) k m s T l e h at =
     let z : from + suc n ≡ suc (from + n) = omega arith in
     let c : from + n < m = omega arith in
-    let step : (edgeOffset (from + n) k m s < length (markedEdges m m s (insertedAbove t k (from + n)))) × (markedEdges m m s (insertedAbove t k (suc (from + n))) ≡ set (markedEdges m m s (insertedAbove t k (from + n))) (edgeOffset (from + n) k m s) true) =
-    mark-step (from + n) k m s t l e c in
-    rw (bits-edges o from n k m s t l e (omega arith) at, at (from + n) c, packed-set (markedEdges m m s (insertedAbove t k (from + n))) (edgeOffset (from + n) k m s) (step .0), z, step .1)
+    let step : (edgeOffset (from + n) k m s < length (markedEdges m m s (insertedAbove T k (from + n)))) × (markedEdges m m s (insertedAbove T k (suc (from + n))) ≡ set (markedEdges m m s (insertedAbove T k (from + n))) (edgeOffset (from + n) k m s) true) =
+    mark-step (from + n) k m s T l e c in
+    rw (bits-edges o from n k m s T l e (omega arith) (λ x q. at x (omega arith)), at (from + n) (omega arith), packed-set (markedEdges m m s (insertedAbove T k (from + n))) (edgeOffset (from + n) k m s) (step .0), z, step .1)
 
 pub new-le : (m n : ℕ) (f : ℕ → Key) → Rising m n f → (i : ℕ) → i < n → firstNew f i ≤ suc m
 unfolding firstNew
 new-le m n f r zero h = omega arith
 new-le m n f r (suc i) h = omega (arith, common-le (f i) (f (suc i)), r .wide (suc i) (omega arith))
 
--- key i is marked on its new levels and the one above them
-pub mark-key : (m n : ℕ) (f : ℕ → Key) (r : Rising m n f) (i : ℕ) (o : ℕ → ℕ) → i < n
-    → ((e : ℕ) → e < m → o e ≡ edgeOffset e (f i) m (setBelow f n))
-    → setBits o (firstNew f i - 1) (m - (firstNew f i - 1)) (packBits (markedEdges m m (setBelow f n) (λ (x : ℕ). setBelow f i))) ≡ packBits (markedEdges m m (setBelow f n) (λ (x : ℕ). setBelow f (suc i)))
-mark-key m n f r i o h at =
+-- key i is marked on its new levels before `top` and the one above them
+pub mark-key : (m n top : ℕ) (f : ℕ → Key) (r : Rising m n f) (i : ℕ) (o : ℕ → ℕ) (u : KeySet) → i < n → top ≤ m → firstNew f i ≤ suc top
+    → ((e : ℕ) → e < top → o e ≡ edgeOffset e (f i) m (setBelow f n))
+    → setBits o (firstNew f i - 1) (top - (firstNew f i - 1)) (packBits (markedEdges m m (setBelow f n) (splitAt top (setBelow f i) u))) ≡ packBits (markedEdges m m (setBelow f n) (splitAt top (setBelow f (suc i)) u))
+mark-key m n top f r i o u h tm new at =
     let c : ℕ = firstNew f i - 1 in
-    let cm : c ≤ m = omega (arith, new-le m n f r i h) in
-    let z : c + (m - c) ≡ m = omega arith in
-    let first : markedEdges m m (setBelow f n) (insertedAbove (setBelow f i) (f i) c) ≡ markedEdges m m (setBelow f n) (λ (x : ℕ). setBelow f i) =
-    mark-first c (f i) m (setBelow f n) (setBelow f i) (r .wide i (omega arith)) cm (λ x l.
-    not-false (hasPrefix (take (suc x) (f i)) m (setBelow f i)) (found-before m n f r i (suc x) h (omega arith) ∙ lt-leb (firstNew f i) (suc x) (omega arith))) in
-    rw (below-suc f i, ← first, bits-edges o c (m - c) (f i) m (setBelow f n) (setBelow f i) (r .wide i (omega arith)) (in-below f i n h) (omega arith) at, z, mark-last (f i) m (setBelow f n) (setBelow f i))
+    let z : c + (top - c) ≡ top = omega arith in
+    let T : ℕ → KeySet = splitAt top (setBelow f i) u in
+    let first : markedEdges m m (setBelow f n) (insertedAbove T (f i) c) ≡ markedEdges m m (setBelow f n) T =
+    mark-first c (f i) m (setBelow f n) T (r .wide i (omega arith)) (omega arith) (λ x l.
+    rw (lt-ltb x top (omega arith)) (not-false (hasPrefix (take (suc x) (f i)) m (setBelow f i)) (found-before m n f r i (suc x) h (omega arith) ∙ lt-leb (firstNew f i) (suc x) (omega arith)))) in
+    rw (below-suc f i, ← first, bits-edges o c (top - c) (f i) m (setBelow f n) T (r .wide i (omega arith)) (in-below f i n h) (omega arith) (λ e q. at e (omega arith)), z, mark-last (f i) m top (setBelow f n) (setBelow f i) u)
 
 -- ---- before the first key
 bits-none : (b : Bool) → recordBits (cond b (record { onZero = false; onOne = false } ∷ []) []) ≡ replicate (2 * bit b) false

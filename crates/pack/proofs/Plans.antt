@@ -52,11 +52,13 @@ module _ (m : ℕ) (l : Bytes) (levels : List ℕ) (old : Bytes) (u : Unfilled m
   pub unmarked : (zeros : Bytes) → zeros ≡ replicate (length old) 0 → Unmarked m (keyBytes m) (keys m l) l levels zeros
   unmarked zeros z =
       record {
-        batch = whole .batch;
-        rising = whole .rises;
-        long = omega (arith, u .long, whole .batch .narrow);
-        starts = rw (set-is m l) at (u .ready .starts);
-        few = omega (arith, whole .few, edge-count m l, ap (recordsBefore m m) (set-is m l));
+        keys = record {
+          batch = whole .batch;
+          rising = whole .rises;
+          long = omega (arith, u .long, whole .batch .narrow);
+          starts = rw (set-is m l) at (u .ready .starts);
+          few = omega (arith, whole .few, edge-count m l, ap (recordsBefore m m) (set-is m l));
+        };
         clear = z ∙ ap (λ n. replicate n 0) (u .room ∙ ap (started 8) (edge-count m l ∙ ap (λ s. 2 * recordsBefore m m s) (set-is m l)));
       }
 

@@ -10,7 +10,7 @@ use mir.Val.{boolByte}
 use lib.ListN.{length, getD, set, length-set}
 use lib.Pow.{pow-add}
 use lib.Bits.{bitAnd, bitOr, or-add-and, and-high}
-use lib.Seq.{ext-getD, getD-set-same, getD-set-other, set-getD}
+use lib.Seq.{ext-getD, getD-set-same, getD-set-other, set-getD, set-set}
 use lib.Dec.{leb}
 use borrow.Author.Tests.{lt-leb}
 use Rattle.loes.specs.Bytes.{Bytes, bit, odd, bitAt, tabulate, bitsValue, byteOf, packBits, started}
@@ -121,7 +121,7 @@ unfolding setBits
 bits-past o from n l h = let z : n - from ≡ 0 = omega arith in rw z
 
 -- bits set one after another
-bits-join : (o : ℕ → ℕ) (from a b : ℕ) (l : List ℕ) → setBits o (from + a) b (setBits o from a l) ≡ setBits o from (a + b) l
+pub bits-join : (o : ℕ → ℕ) (from a b : ℕ) (l : List ℕ) → setBits o (from + a) b (setBits o from a l) ≡ setBits o from (a + b) l
 unfolding setBits
 bits-join o from a zero l = let z : a + 0 ≡ a = omega arith in rw z
 bits-join o from a (suc b) l =
@@ -134,6 +134,33 @@ bits-all o new m l cur h e =
     let z : new - 1 + (new - (new - 1)) ≡ new = omega arith in
     let w : new - (new - 1) + (m - new) ≡ m - (new - 1) = omega arith in
     ap (setBits o new (m - new)) e ∙ rw (z, w) at (bits-join o (new - 1) (new - (new - 1)) (m - new) l)
+
+pub bits-one : (o : ℕ → ℕ) (from : ℕ) (l : List ℕ) → setBits o from 1 l ≡ setBit l (o from)
+unfolding setBits
+bits-one o from l = let z : from + 0 ≡ from = omega arith in rw z
+
+-- four of one byte
+module _ (at : ℕ) (l : List ℕ) (h : at < length l) where
+  bit-first : (o v : ℕ) → o / 8 ≡ at → v ≡ 2 ^ (7 - o % 8) → setBit l o ≡ set l at (bitOr (getD l at 0) v)
+  bit-first o v e d = rw (d, ← e) (sym (set-or l o))
+
+  bit-next : (o v x : ℕ) → o / 8 ≡ at → v ≡ 2 ^ (7 - o % 8) → setBit (set l at x) o ≡ set l at (bitOr x v)
+  bit-next o v x e d =
+      rw (d, ← set-or (set l at x) o, e) (ap (λ y. set (set l at x) at (bitOr y (2 ^ (7 - o % 8)))) (getD-set-same l at x 0 h) ∙ set-set l at x (bitOr x (2 ^ (7 - o % 8))))
+
+  pub bits-four : (o : ℕ → ℕ) (from a b c d : ℕ) → ((j : ℕ) → j < 4 → o (from + j) / 8 ≡ at)
+      → a ≡ 2 ^ (7 - o (from + 0) % 8) → b ≡ 2 ^ (7 - o (from + 1) % 8) → c ≡ 2 ^ (7 - o (from + 2) % 8) → d ≡ 2 ^ (7 - o (from + 3) % 8)
+      → set l at (bitOr (bitOr (bitOr (bitOr (getD l at 0) a) b) c) d) ≡ setBits o from 4 l
+  unfolding setBits
+  bits-four o from a b c d e p q r s =
+      let x : ℕ = bitOr (getD l at 0) a in
+      sym
+      (rw (
+        bit-first (o (from + 0)) a (e 0 (omega arith)) p,
+        bit-next (o (from + 1)) b x (e 1 (omega arith)) q,
+        bit-next (o (from + 2)) c (bitOr x b) (e 2 (omega arith)) r,
+        bit-next (o (from + 3)) d (bitOr (bitOr x b) c) (e 3 (omega arith)) s,
+      ))
 
 -- the same bits
 pub bits-ext : (o p : ℕ → ℕ) (from n : ℕ) (l : List ℕ) → ((j : ℕ) → j < n → o (from + j) ≡ p (from + j)) → setBits o from n l ≡ setBits p from n l

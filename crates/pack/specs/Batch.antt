@@ -1,12 +1,14 @@
 -- A batch: its keys, and what is tested of them.
 use mathlib.Core.Path.{_≡_}
 use Prim.Native.Nat.{ℕ, zero, suc, _-_, _*_, _/_, _^_, _<_, _≤_}
-use mathlib.Core.List.{List, [], _∷_}
+use mathlib.Core.Bool.{Bool, false}
+use mathlib.Core.List.{List, [], _∷_, _++_}
 use mathlib.Core.Option.{none, some}
 use lib.ListN.{length, getD, drop, replicate}
 use Rattle.loes.specs.Limits.{maxWidth}
 use Rattle.loes.specs.Bytes.{Bytes, odd, tabulate, join, started}
-use Rattle.loes.specs.Keys.{Key, less}
+use Rattle.loes.specs.Keys.{Key, KeySet, less}
+use Rattle.loes.specs.Edges.{edges}
 use Rattle.loes.specs.Entry.{keyBytes}
 use Rattle.loes.specs.Refusals.{unusedBitSet, descending, Tests, test, firstOf}
 use Rattle.loes.specs.Model.{keyIn, unusedSet}
@@ -77,11 +79,24 @@ RecordsCounted m n l counts (Refused k) = firstOf (testsBelow m l n) ≡ some k
 RecordsCounted m n l counts (Accepted b) =
     (firstOf (testsBelow m l n) ≡ none) × ((e : ℕ) → e < m → getD counts e 0 ≡ prefixCount e m (setBelow (key m l) n)) × (b ≡ n)
 
--- rising keys to be marked: each cursor is at its level's first record, the edge bytes are clear
-pub record Unmarked (m t n : ℕ) (l : Bytes) (cursors : List ℕ) (edges : Bytes) : Type 0 where
+-- rising keys to be marked: each cursor is at its level's first record
+pub record Markable (m t n : ℕ) (l : Bytes) (cursors : List ℕ) : Type 0 where
   pub batch : Batch m t n l
   pub rising : Rising m n (key m l)
   pub long : m ≤ length cursors
   pub starts : (e : ℕ) → e < m → getD cursors e 0 ≡ recordsBefore e m (setBelow (key m l) n)
   pub few : recordsBefore m m (setBelow (key m l) n) ≤ maxRecords
+
+-- and the edge bytes are clear
+pub record Unmarked (m t n : ℕ) (l : Bytes) (cursors : List ℕ) (edges : Bytes) : Type 0 where
+  pub keys : Markable m t n l cursors
   pub clear : edges ≡ replicate (started 8 (2 * recordsBefore m m (setBelow (key m l) n))) 0
+
+-- top is m, or level top has n records
+pub record Apart (m n top : ℕ) (s : KeySet) : Type 0 where
+  pub most : top ≤ m
+  pub each : top < m → prefixCount top m s ≡ n
+
+-- the edges of the levels from one on; those before it are clear
+unfoldable pub edgesFrom : ℕ → ℕ → KeySet → List Bool
+edgesFrom top m s = replicate (2 * recordsBefore top m s) false ++ drop (2 * recordsBefore top m s) (edges m s)

@@ -3,7 +3,7 @@ use mathlib.Core.Path.{_≡_}
 use Prim.Native.Nat.{ℕ, zero, suc, _+_, _-_, _/_, _%_, _^_, _*_, _<_, _≤_}
 use mathlib.Core.Bool.{true, cond}
 use mathlib.Core.List.{List}
-use lib.ListN.{length, getD, set}
+use lib.ListN.{length, getD, set, drop}
 use lib.Dec.{leb}
 use Rattle.loes.specs.Limits.{maxEdges}
 use Rattle.loes.specs.Bytes.{Bytes, bit, bitAt, tabulate}
@@ -64,3 +64,20 @@ pub record Room (m new : ℕ) (key : Bytes) (cursors : List ℕ) (edges : Bytes)
   pub small : length edges ≤ maxEdges / 8
   -- above its first new level the key goes on with 1
   pub later : 0 < new → new ≤ m → bitAt key (new - 1) ≡ true
+
+-- ---- A level on which each key has a record of its own
+-- where key i of a batch has its edge of level e, whose first record is given
+unfoldable pub rowOffset : ℕ → Bytes → ℕ → ℕ → ℕ → ℕ
+rowOffset t l e first i = 2 * (first + i) + bit (bitAt (drop (t * i) l) e)
+
+-- the batch has n keys with such an edge, and it lies in the edge bytes
+pub record Row (t n e first : ℕ) (l edges : Bytes) : Type 0 where
+  pub whole : t * n ≤ length l
+  pub inside : e / 8 < t
+  pub fit : 2 * (first + n) ≤ 8 * length edges
+  pub small : length edges ≤ maxEdges / 8
+
+-- of the records before each level: r is m, or level r has n records
+pub record Gap (m n : ℕ) (starts : List ℕ) (r : ℕ) : Type 0 where
+  pub most : r ≤ m
+  pub size : r < m → (suc r < m) × (getD starts (suc r) 0 ≡ getD starts r 0 + n)

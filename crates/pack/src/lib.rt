@@ -1,10 +1,10 @@
 // The call pack: a sorted batch of keys, its edges marked where they stand in the encoding.
 ghost use mathlib.Core.Path.{_≡_};
-ghost use Prim.Native.Nat.{ℕ, _+_, _-_, _*_, _/_, _^_, _<_, _≤_};
+ghost use Prim.Native.Nat.{ℕ, _+_, _-_, _*_, _/_, _%_, _^_, _<_, _≤_};
 ghost use lib.ListN.{length, drop, getD, replicate};
 ghost use Rattle.loes.specs.Limits.{maxWidth, maxEdges};
 ghost use Rattle.loes.specs.Edges.{edges as edgesIn};
-ghost use Rattle.loes.specs.Bytes.{packBits};
+ghost use Rattle.loes.specs.Bytes.{packBits, bit, bitAt};
 ghost use Rattle.loes.specs.Keys.{less};
 ghost use Rattle.loes.specs.Entry.{keyBytes, edgesOf, edgeCount};
 ghost use Rattle.loes.specs.Model.{keyIn, batchEntry};
@@ -12,9 +12,10 @@ ghost use Rattle.loes.specs.Calls.{packCall};
 ghost use Rattle.build.specs.Writing.{writtenOutcome};
 ghost use Rattle.pack.specs.Packing.{Blank, Ready, Planned, Unfilled};
 ghost use Rattle.pack.specs.Rising.{commonPrefix, firstNew, setBelow};
-ghost use Rattle.pack.specs.Marking.{Bumped, running, Starts, Masks, setBit, setBits, secondEdges, offsetOf, Room};
-ghost use Rattle.pack.specs.Batch.{SameBytes, FirstDifference, key, previous, KeyThere, KeyChecked, Uncounted, RecordsCounted, Unmarked};
+ghost use Rattle.pack.specs.Marking.{Bumped, running, Starts, maxRecords, Gap, Masks, setBit, setBits, secondEdges, offsetOf, Room, Row, rowOffset};
+ghost use Rattle.pack.specs.Batch.{SameBytes, FirstDifference, key, previous, KeyThere, KeyChecked, Uncounted, RecordsCounted, Markable, Unmarked, Apart, edgesFrom};
 use bits::EdgeOffset;
+use bits::RecordIndex;
 use build::Written;
 use encoding::Encoding;
 use loes::refusal;
@@ -252,19 +253,180 @@ fn mark_key(key: &[u8], new: usize, m: usize, cursors: &mut [usize], edges: &mut
     }
 }
 
-// Sets the edges of all keys, with a cursor for each level.
-fn mark_keys(batch: &[u8], n: usize, t: usize, m: usize, cursors: &mut [usize], edges: &mut [u8])
-    requires { ⌜ Unmarked m t n (now batch) (now cursors) (now edges) ⌝ }
+// Sets the edges of all keys on the levels before one, with a cursor for each; those of the levels from it on are set.
+fn mark_keys(
+    batch: &[u8],
+    n: usize,
+    t: usize,
+    m: usize,
+    top: usize,
+    cursors: &mut [usize],
+    edges: &mut [u8],
+    masks: &[u8],
+)
+    requires { ⌜ Markable m t n (now batch) (now cursors) × Apart m n top (setBelow (key m (now batch)) n) ⌝ }
+    requires { ⌜ (now edges ≡ packBits (edgesFrom top m (setBelow (key m (now batch)) n))) × Masks (now masks) ⌝ }
     ensures { λ _. ⌜ now (edges .exit) ≡ packBits (edgesIn m (setBelow (key m (now (batch .entry))) n)) ⌝ }
 {
-    let masks = masks();
     let mut i = 0;
     while i < n {
         let new = first_new(batch, i, t, m);
         let at = t * i;
-        mark_key(&batch[at..], new, m, cursors, edges, &masks);
+        mark_key(&batch[at..], new, top, cursors, edges, masks);
         i += 1;
     }
+}
+
+// ---- Levels on which each key has a record of its own: key after key, four to a byte
+// Fewer keys than this are sooner marked one by one.
+const FEW: usize = 16;
+
+// A level from which on each of n keys has a record of its own, told by the records before the levels; m where none is found.
+fn apart_from(starts: &[usize], n: usize, m: usize) -> usize
+    requires { ⌜ (m ≤ length (now starts)) × ((e : ℕ) → e < m → getD (now starts) e 0 ≤ maxRecords) × (n < 2 ^ 63) ⌝ }
+    ensures { λ r. ⌜ Gap m n (now (starts .entry)) r ⌝ }
+{
+    let none = m;
+    if n < FEW {
+        return none;
+    }
+    let mut e = 1;
+    while e < m {
+        if starts[e - 1] + n == starts[e] {
+            return e - 1;
+        }
+        e += 1;
+    }
+    none
+}
+
+// Bit e of key i.
+fn key_bit(batch: &[u8], t: usize, i: usize, e: usize) -> usize
+    requires { ⌜ (t * i + t ≤ length (now batch)) × (e / 8 < t) ⌝ }
+    ensures { λ r. ⌜ r ≡ bit (bitAt (drop (t * i) (now (batch .entry))) e) ⌝ }
+{
+    let at = t * i;
+    bits::bit_at(&batch[at..], e) as usize
+}
+
+// Sets the edge of key i on level e, whose first record is given.
+fn mark_one(
+    batch: &[u8],
+    t: usize,
+    e: usize,
+    first: RecordIndex,
+    i: usize,
+    edges: &mut [u8],
+    masks: &[u8],
+)
+    requires { ⌜ Row t (i + 1) e (first .0) (now batch) (now edges) × Masks (now masks) ⌝ }
+    ensures { λ _. ⌜ now (edges .exit) ≡ setBits (rowOffset t (now (batch .entry)) e (first .0)) i 1 (now (edges .entry)) ⌝ }
+{
+    let record = first.0 + i;
+    let o = 2 * record + key_bit(batch, t, i, e);
+    set_bit(edges, EdgeOffset(o), masks);
+}
+
+// The same of four keys, whose records are a byte.
+fn mark_four(
+    batch: &[u8],
+    t: usize,
+    e: usize,
+    first: RecordIndex,
+    i: usize,
+    edges: &mut [u8],
+    masks: &[u8],
+)
+    requires { ⌜ Row t (i + 4) e (first .0) (now batch) (now edges) × Masks (now masks) × ((first .0 + i) % 4 ≡ 0) ⌝ }
+    ensures { λ _. ⌜ now (edges .exit) ≡ setBits (rowOffset t (now (batch .entry)) e (first .0)) i 4 (now (edges .entry)) ⌝ }
+{
+    let record = first.0 + i;
+    let at = record / 4;
+    let p = key_bit(batch, t, i, e);
+    let q = key_bit(batch, t, i + 1, e);
+    let r = key_bit(batch, t, i + 2, e);
+    let s = key_bit(batch, t, i + 3, e);
+    let x = edges[at];
+    edges[at] = x | masks[p] | masks[2 + q] | masks[4 + r] | masks[6 + s];
+}
+
+// The same of the next keys, and tells how many they were.
+fn mark_next(
+    batch: &[u8],
+    n: usize,
+    t: usize,
+    e: usize,
+    first: RecordIndex,
+    i: usize,
+    edges: &mut [u8],
+    masks: &[u8],
+) -> usize
+    requires { ⌜ Row t n e (first .0) (now batch) (now edges) × Masks (now masks) × (i < n) ⌝ }
+    ensures { λ r. ⌜ (0 < r) × (i + r ≤ n) × (now (edges .exit) ≡ setBits (rowOffset t (now (batch .entry)) e (first .0)) i r (now (edges .entry))) ⌝ }
+{
+    let record = first.0 + i;
+    if record % 4 != 0 {
+        mark_one(batch, t, e, first, i, edges, masks);
+        return 1;
+    }
+    if n - i < 4 {
+        mark_one(batch, t, e, first, i, edges, masks);
+        return 1;
+    }
+    mark_four(batch, t, e, first, i, edges, masks);
+    4
+}
+
+// The same of all keys.
+fn mark_level(
+    batch: &[u8],
+    n: usize,
+    t: usize,
+    e: usize,
+    first: RecordIndex,
+    edges: &mut [u8],
+    masks: &[u8],
+)
+    requires { ⌜ Row t n e (first .0) (now batch) (now edges) × Masks (now masks) ⌝ }
+    ensures { λ _. ⌜ now (edges .exit) ≡ setBits (rowOffset t (now (batch .entry)) e (first .0)) 0 n (now (edges .entry)) ⌝ }
+{
+    let mut i = 0;
+    while i < n {
+        i += mark_next(batch, n, t, e, first, i, edges, masks);
+    }
+}
+
+// The same on all levels from one on, the last first.
+fn mark_levels(
+    batch: &[u8],
+    n: usize,
+    t: usize,
+    m: usize,
+    top: usize,
+    starts: &[usize],
+    edges: &mut [u8],
+    masks: &[u8],
+)
+    requires { ⌜ Unmarked m t n (now batch) (now starts) (now edges) × Apart m n top (setBelow (key m (now batch)) n) × Masks (now masks) ⌝ }
+    ensures { λ _. ⌜ now (edges .exit) ≡ packBits (edgesFrom top m (setBelow (key m (now (batch .entry))) n)) ⌝ }
+{
+    let mut e = m;
+    while top < e {
+        e -= 1;
+        let first = starts[e];
+        mark_level(batch, n, t, e, RecordIndex(first), edges, masks);
+    }
+}
+
+// Sets the edges of all keys: those of the levels on which they are apart, then the others.
+fn mark_all(batch: &[u8], n: usize, t: usize, m: usize, cursors: &mut [usize], edges: &mut [u8])
+    requires { ⌜ Unmarked m t n (now batch) (now cursors) (now edges) ⌝ }
+    ensures { λ _. ⌜ now (edges .exit) ≡ packBits (edgesIn m (setBelow (key m (now (batch .entry))) n)) ⌝ }
+{
+    let masks = masks();
+    let top = apart_from(cursors, n, m);
+    mark_levels(batch, n, t, m, top, cursors, edges, &masks);
+    mark_keys(batch, n, t, m, top, cursors, edges, &masks);
 }
 
 // Clears what was in a buffer.
@@ -319,7 +481,7 @@ fn fill(batch: &[u8], m: usize, levels: &mut [usize], edges: &mut [u8])
 {
     let t = (m + 7) / 8;
     clear(edges);
-    mark_keys(batch, batch.len() / t, t, m, levels, edges);
+    mark_all(batch, batch.len() / t, t, m, levels, edges);
 }
 
 // ---- The call

@@ -22,7 +22,7 @@ use Rattle.pack.proofs.count_records.Tie as tie
 
 abbrev Inv-loop : tie.InvT-loop
 Inv-loop batch n t m counts₀ i₀ counts i =
-    (i ≤ n) × (length counts ≡ length counts₀) × (firstOf (testsBelow m batch i) ≡ none) × Counted m (λ (e : ℕ). 0) (key m batch) i (running counts m)
+    (i ≤ n) × (length counts ≡ length counts₀) × (firstOf (testsBelow m batch i) ≡ none) × Counted m m (λ (e : ℕ). 0) (key m batch) i (running counts m)
 
 abbrev μ-loop : tie.MeasureT-loop
 μ-loop batch n t m counts₀ i₀ counts i = n - i
@@ -50,7 +50,7 @@ module _ (w : tie.In-loop Inv-loop μ-loop) where
 loop-holds : tie.Need-loop-holds Inv-loop μ-loop
 loop-holds c =
     let s = c .before .before in
-    (omega arith, refl, none-tested (s .args .m) (now (s .args .batch)), none-yet (s .args .m) (λ e. 0) (key (s .args .m) (now (s .args .batch))) (running (now (s .args .counts)) (s .args .m)) (running-zero (now (s .args .counts)) (s .args .m) (s .pre .zero)))
+    (omega arith, refl, none-tested (s .args .m) (now (s .args .batch)), none-yet (s .args .m) (s .args .m) (λ e. 0) (key (s .args .m) (now (s .args .batch))) (running (now (s .args .counts)) (s .args .m)) (running-zero (now (s .args .counts)) (s .args .m) (s .pre .zero)))
 
 check-key-requires : tie.Need-check-key-requires Inv-loop μ-loop
 check-key-requires c κs = let s = start c in key-there (s .args .m) (s .args .t) (s .args .n) (bytes c) (s .pre .batch) (at c) (c .loop-test .taken)
@@ -105,7 +105,7 @@ loop-again c =
       omega (arith, w .loop-test .taken),
       b .note .kept .0 ∙ w .before .loop .inv .1,
       rw (add-one (at w)) (p .0),
-      counted-more (s .args .m) (suc (at w)) (λ x. 0) (key (s .args .m) (bytes w)) (rising (s .args .m) (bytes w) (suc (at w)) (p .0)) (at w) (d .checked2 .given .0 .0) (running (w .before .loop .counts) (s .args .m)) (running (b .note .last .0) (s .args .m)) (omega arith) (p .1) (b .note .ensures) (w .before .loop .inv .3),
+      counted-more (s .args .m) (suc (at w)) (λ x. 0) (key (s .args .m) (bytes w)) (rising (s .args .m) (bytes w) (suc (at w)) (p .0)) (s .args .m) (at w) (d .checked2 .given .0 .0) (running (w .before .loop .counts) (s .args .m)) (running (b .note .last .0) (s .args .m)) (omega arith) (omega arith) (p .1) (b .note .ensures) (w .before .loop .inv .3),
     )
 
 same-length-2 : tie.Need-same-length-2 Inv-loop μ-loop

@@ -17,12 +17,12 @@ add-t c = omega (arith, good (c .before .before .before) .batch .narrow)
 clear-requires : tie.Need-clear-requires
 clear-requires c κs = search needs
 
-div-mark-keys : tie.Need-div-mark-keys
-div-mark-keys c = omega (arith, good (c .before .before .before .before .before .before .before) .batch .positive)
+div-mark-all : tie.Need-div-mark-all
+div-mark-all c = omega (arith, good (c .before .before .before .before .before .before .before) .batch .positive)
 
-mark-keys-requires : tie.Need-mark-keys-requires
+mark-all-requires : tie.Need-mark-all-requires
 unfolding keyBytes started
-mark-keys-requires c κs =
+mark-all-requires c κs =
     let v = c .before .before .before .before in
     let s = v .before .before .before .before .before in
     unmarked (s .args .m) (now (s .args .batch)) (now (s .args .levels)) (now (s .args .edges)) (s .pre) (v .clear .last .0) (v .clear .ensures)
@@ -39,7 +39,7 @@ returns c =
     let k = c .before .before .before .before in
     let v = k .before .before .before .before .before in
     let s = v .before .before .before .before .before in
-    filled (s .args .m) (now (s .args .batch)) (k .mark-keys .last .1 .1 .1 .1 .1 .0) (k .mark-keys .ensures)
+    filled (s .args .m) (now (s .args .batch)) (k .mark-all .last .1 .1 .1 .1 .1 .0) (k .mark-all .ensures)
 
 pub fill-spec : {M : Type 1} → statement M
 fill-spec =
@@ -47,8 +47,8 @@ fill-spec =
     (tie.spec
     add-t
     clear-requires
-    div-mark-keys
-    mark-keys-requires
+    div-mark-all
+    mark-all-requires
     same-length
     same-length-2
     returns)
