@@ -20,8 +20,8 @@ use Rattle.pack.specs.Marking.{maxRecords, setBits, rowOffset, Row, Gap}
 use Rattle.pack.specs.Batch.{key, Markable, Apart, edgesFrom}
 use Rattle.pack.proofs.Grow.{insert, inhabited-none, below-zero, below-suc, in-below}
 use Rattle.pack.proofs.Prefixes.{key-bit}
-use Rattle.pack.proofs.Marked.{marked, markedEdges, length-edges, edges-ext, edges-all, edgeOffset, edges-set, splitAt}
-use Rattle.pack.proofs.Pass.{edges-none, new-le, offset-is}
+use Rattle.pack.proofs.Marked.{marked, markedEdges, length-edges, edges-ext, edges-all, edgeOffset, edges-set, splitAt, split-all}
+use Rattle.pack.proofs.Pass.{edges-none, mark-start, new-le, offset-is}
 use Rattle.pack.proofs.SetBits.{packed-set}
 use Rattle.pack.proofs.Turn.{all-new, own-record, records-le}
 
@@ -123,6 +123,13 @@ module _ (m t n : ℕ) (l : Bytes) (cursors : List ℕ) (k : Markable m t n l cu
         most = g .most;
         each = λ h. omega (arith, g .size h .1, k .starts top h, k .starts (suc top) (g .size h .0));
       }
+
+  -- no level is: nothing is marked yet
+  pub none-apart : Apart m n m whole
+  none-apart = record { most = omega arith; each = λ h. absurd (omega arith) }
+
+  pub none-marked : (edges : Bytes) → edges ≡ replicate (started 8 (2 * recordsBefore m m whole)) 0 → edges ≡ packBits (edgesFrom m m whole)
+  none-marked edges z = z ∙ sym (mark-start m whole K) ∙ ap packBits (sym (split-all m whole (setBelow K 0) whole) ∙ from-is m m K whole (omega arith))
 
   module _ (top : ℕ) (a : Apart m n top whole) where
     pub new-top : (i : ℕ) → i < n → firstNew K i ≤ suc top

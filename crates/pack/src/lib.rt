@@ -278,18 +278,11 @@ fn mark_keys(
 }
 
 // ---- Levels on which each key has a record of its own: key after key, four to a byte
-// Fewer keys than this are sooner marked one by one.
-const FEW: usize = 16;
-
 // A level from which on each of n keys has a record of its own, told by the records before the levels; m where none is found.
 fn apart_from(starts: &[usize], n: usize, m: usize) -> usize
     requires { ⌜ (m ≤ length (now starts)) × ((e : ℕ) → e < m → getD (now starts) e 0 ≤ maxRecords) × (n < 2 ^ 63) ⌝ }
     ensures { λ r. ⌜ Gap m n (now (starts .entry)) r ⌝ }
 {
-    let none = m;
-    if n < FEW {
-        return none;
-    }
     let mut e = 1;
     while e < m {
         if starts[e - 1] + n == starts[e] {
@@ -297,7 +290,7 @@ fn apart_from(starts: &[usize], n: usize, m: usize) -> usize
         }
         e += 1;
     }
-    none
+    m
 }
 
 // Bit e of key i.
@@ -418,12 +411,19 @@ fn mark_levels(
     }
 }
 
+// Fewer keys than this are sooner marked one by one.
+const FEW: usize = 16;
+
 // Sets the edges of all keys: those of the levels on which they are apart, then the others.
 fn mark_all(batch: &[u8], n: usize, t: usize, m: usize, cursors: &mut [usize], edges: &mut [u8])
     requires { ⌜ Unmarked m t n (now batch) (now cursors) (now edges) ⌝ }
     ensures { λ _. ⌜ now (edges .exit) ≡ packBits (edgesIn m (setBelow (key m (now (batch .entry))) n)) ⌝ }
 {
     let masks = masks();
+    if n < FEW {
+        mark_keys(batch, n, t, m, m, cursors, edges, &masks);
+        return;
+    }
     let top = apart_from(cursors, n, m);
     mark_levels(batch, n, t, m, top, cursors, edges, &masks);
     mark_keys(batch, n, t, m, top, cursors, edges, &masks);
