@@ -15,10 +15,6 @@ pub edges-end : (m b : ℕ) → start4 m + 3 + edgeBytes b ≤ endOf m b
 unfolding endOf start6 start5
 edges-end m b = omega arith
 
-pub standing-length : (m b : ℕ) (xs : Bytes) → endOf m b ≤ length xs → length (standing m b xs) ≡ edgeBytes b
-unfolding standing
-standing-length m b xs h = length-take-le (edgeBytes b) (drop (start4 m + 3) xs) (omega (arith, length-drop (start4 m + 3) xs, edges-end m b))
-
 -- l takes the place of the k bytes from a place on
 module _ (m b at k : ℕ) (xs l : Bytes) (place : at ≡ start4 m + 3) (size : k ≡ edgeBytes b) (long : length l ≡ k) (room : endOf m b ≤ length xs) where
   before : length (take at xs) ≡ at
