@@ -153,7 +153,10 @@ loes_answer loes_rank(const uint8_t *encoding, size_t length, loes_edge_offset o
  * those of opening: 15 (also for a state that is none of the three), 14 (not when going to after).
  *
  *     loes_cursor cursor = {LOES_BEFORE, {{0}}};
- *     while (loes_advance(set, length, &cursor, key, sizeof key).found)
+ *     loes_answer step;
+ *     while ((step = loes_advance(set, length, &cursor, key, sizeof key)).found)
+ *         ...;
+ *     if (step.refusal)
  *         ...;
  */
 loes_answer loes_advance(const uint8_t *encoding, size_t length, loes_cursor *cursor, uint8_t *out, size_t room);

@@ -524,17 +524,28 @@ fn head(out: &mut [u8], at: &mut usize, tag: u8, length: usize) {
     put(out, at, &[tag, (length >> 8) as u8, length as u8]);
 }
 
-/// 5, 14, then the fields.
-fn write(width: usize, count: usize, ends: &[usize], edges: &[u8], out: &mut [u8]) -> Result<usize, u64> {
-    let bits = ends[width - 1];
+/// The length of an encoding, if it fits: 5, 14.
+fn length(width: usize, bits: usize, room: usize) -> Result<usize, u64> {
     if bits > MAX_EDGES {
         return Err(5);
     }
-    let (bytes, blocks, sub_blocks) = (bits.div_ceil(8), bits.div_ceil(BLOCK_BITS), bits.div_ceil(SUB_BLOCK_BITS));
-    let length = 24 + 4 * width + bytes + 8 * blocks + 2 * sub_blocks;
-    if out.len() < length {
+    let index = 8 * bits.div_ceil(BLOCK_BITS) + 2 * bits.div_ceil(SUB_BLOCK_BITS);
+    let length = 24 + 4 * width + bits.div_ceil(8) + index;
+    if room < length {
         return Err(14);
     }
+    Ok(length)
+}
+
+/// Where the edges stand: behind the head of field 4.
+fn edges_at(width: usize) -> usize {
+    18 + 4 * width
+}
+
+/// Every field around the edges, which stand in their place.
+fn write_around(width: usize, count: usize, ends: &[usize], out: &mut [u8]) {
+    let bits = ends[width - 1];
+    let (bytes, blocks, sub_blocks) = (bits.div_ceil(8), bits.div_ceil(BLOCK_BITS), bits.div_ceil(SUB_BLOCK_BITS));
     let mut at = 0;
     head(out, &mut at, 1, 2);
     put(out, &mut at, &(width as u16).to_be_bytes());
@@ -545,13 +556,14 @@ fn write(width: usize, count: usize, ends: &[usize], edges: &[u8], out: &mut [u8
         put(out, &mut at, &(*end as u32).to_be_bytes());
     }
     head(out, &mut at, 4, bytes);
-    put(out, &mut at, &edges[..bytes]);
+    let (edges, out) = out[at..].split_at_mut(bytes);
+    at = 0;
     head(out, &mut at, 5, 8 * blocks);
     let mut block = at;
     at += 8 * blocks;
     head(out, &mut at, 6, 2 * sub_blocks);
     let (mut base, mut ones) = (0, 0);
-    for (j, part) in edges[..bytes].chunks(64).enumerate() {
+    for (j, part) in edges.chunks(64).enumerate() {
         if j % 128 == 0 {
             base = ones;
             put(out, &mut block, &(base as u64).to_be_bytes());
@@ -559,6 +571,15 @@ fn write(width: usize, count: usize, ends: &[usize], edges: &[u8], out: &mut [u8
         put(out, &mut at, &((ones - base) as u16).to_be_bytes());
         ones += count_ones(part);
     }
+}
+
+/// The same from edges elsewhere, if it fits.
+fn write(width: usize, count: usize, ends: &[usize], edges: &[u8], out: &mut [u8]) -> Result<usize, u64> {
+    let bits = ends[width - 1];
+    let length = length(width, bits, out.len())?;
+    let (at, bytes) = (edges_at(width), bits.div_ceil(8));
+    out[at..at + bytes].copy_from_slice(&edges[..bytes]);
+    write_around(width, count, ends, out);
     Ok(length)
 }
 
@@ -640,6 +661,23 @@ fn mark_keys(batch: &[u8], t: usize, cursors: &mut [usize], edges: &mut [u8]) {
     }
 }
 
+/// Sets the edges of a level on which each key has a record of its own, four to a byte.
+fn mark_level(batch: &[u8], t: usize, d: usize, first: usize, edges: &mut [u8]) {
+    let n = batch.len() / t;
+    let bit = |i: usize| usize::from(bit_at(&batch[t * i..], d));
+    let mut i = 0;
+    while i < n {
+        let record = first + i;
+        if record % 4 == 0 && i + 4 <= n {
+            edges[record / 4] |= 0x80 >> bit(i) | 0x20 >> bit(i + 1) | 0x08 >> bit(i + 2) | 0x02 >> bit(i + 3);
+            i += 4;
+        } else {
+            set_bit(edges, 2 * record + bit(i));
+            i += 1;
+        }
+    }
+}
+
 pub fn pack(width: u64, batch: &[u8], out: &mut [u8]) -> Result<usize, u64> {
     if width == 0 || width > MAX_WIDTH as u64 {
         return Err(4);
@@ -660,9 +698,19 @@ pub fn pack(width: u64, batch: &[u8], out: &mut [u8]) -> Result<usize, u64> {
             return Err(5);
         }
     }
-    let mut edges = vec![0u8; bits.div_ceil(8)];
-    mark_keys(batch, t, &mut starts[..m], &mut edges);
-    write(m, counts[m], &ends, &edges, out)
+    let length = length(m, bits, out.len())?;
+    let at = edges_at(m);
+    let edges = &mut out[at..at + bits.div_ceil(8)];
+    edges.fill(0);
+    // from this level on each key has a record of its own
+    let n = batch.len() / t;
+    let apart = if n < 16 { m } else { (0..m - 1).find(|d| counts[*d] == n).unwrap_or(m) };
+    for d in apart..m {
+        mark_level(batch, t, d, starts[d], edges);
+    }
+    mark_keys(batch, t, &mut starts[..apart], edges);
+    write_around(m, counts[m], &ends, out);
+    Ok(length)
 }
 
 // ---- Union and difference, eight records at a time

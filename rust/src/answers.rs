@@ -23,7 +23,12 @@ pub(crate) fn value(answer: Answer) -> Result<u64, Refusal> {
     option(answer).map(|value| value.expect("this call has no answer without a value"))
 }
 
-/// A number of bytes; 0 if nothing is written.
+/// A number of bytes.
 pub(crate) fn length(answer: Answer) -> Result<usize, Refusal> {
+    value(answer).map(|length| length as usize)
+}
+
+/// The bytes that a step wrote; 0 if it went to after.
+pub(crate) fn stepped(answer: Answer) -> Result<usize, Refusal> {
     option(answer).map(|length| length.unwrap_or(0) as usize)
 }

@@ -166,5 +166,5 @@ pub fn rank(encoding: &[u8], offset: EdgeOffset) -> Result<u64, Refusal> {
 /// # Ok::<(), loes::Refusal>(())
 /// ```
 pub fn advance(encoding: &[u8], cursor: &mut Cursor, out: &mut [u8]) -> Result<usize, Refusal> {
-    answers::length(ffi::advance(encoding, &mut cursor.numbers, out))
+    answers::stepped(ffi::advance(encoding, &mut cursor.numbers, out))
 }

@@ -245,7 +245,7 @@ impl<'a> Encoding<'a> {
     /// # Ok::<(), Refusal>(())
     /// ```
     pub fn advance(&self, cursor: &mut Cursor, out: &mut [u8]) -> Result<usize, Refusal> {
-        answers::length(self.checked.advance(&mut cursor.numbers, out))
+        answers::stepped(self.checked.advance(&mut cursor.numbers, out))
     }
 
     /// Its keys in rising order.
@@ -312,7 +312,7 @@ impl Keys<'_> {
     /// # Ok::<(), Refusal>(())
     /// ```
     pub fn next_into(&mut self, out: &mut [u8]) -> Result<usize, Refusal> {
-        let written = answers::length(self.walk.next(out))?;
+        let written = answers::stepped(self.walk.next(out))?;
         if written > 0 {
             self.left -= 1;
         }
@@ -335,7 +335,7 @@ impl Keys<'_> {
     /// # Ok::<(), Refusal>(())
     /// ```
     pub fn fill(&mut self, out: &mut [u8]) -> Result<usize, Refusal> {
-        let written = answers::length(self.walk.fill(out))?;
+        let written = answers::stepped(self.walk.fill(out))?;
         self.left -= written / self.encoding.key_len();
         Ok(written)
     }

@@ -78,10 +78,10 @@ extern "C" {
     fn loes_unchecked_lower_bound(width: u64, count: u64, bits: u64, l: *const u8, n: usize, key: *const u8, k: usize) -> Answer;
     fn loes_unchecked_key_at(width: u64, count: u64, bits: u64, l: *const u8, n: usize, index: MemberIndex, out: *mut u8, m: usize) -> Answer;
     fn loes_unchecked_rank(width: u64, count: u64, bits: u64, l: *const u8, n: usize, offset: EdgeOffset) -> Answer;
-    fn loes_unchecked_advance(width: u64, count: u64, bits: u64, l: *const u8, n: usize, state: u64, offsets: *mut EdgeOffset, count: usize, out: *mut u8, m: usize) -> Step;
+    fn loes_unchecked_advance(width: u64, count: u64, bits: u64, l: *const u8, n: usize, state: u64, offsets: *mut EdgeOffset, offset_count: usize, out: *mut u8, m: usize) -> Step;
     // and with a right cursor
-    fn loes_unchecked_next(width: u64, count: u64, bits: u64, l: *const u8, n: usize, state: u64, offsets: *mut EdgeOffset, count: usize, out: *mut u8, m: usize) -> Step;
-    fn loes_unchecked_walk(width: u64, count: u64, bits: u64, l: *const u8, n: usize, state: u64, offsets: *mut EdgeOffset, count: usize, out: *mut u8, m: usize) -> Step;
+    fn loes_unchecked_next(width: u64, count: u64, bits: u64, l: *const u8, n: usize, state: u64, offsets: *mut EdgeOffset, offset_count: usize, out: *mut u8, m: usize) -> Step;
+    fn loes_unchecked_walk(width: u64, count: u64, bits: u64, l: *const u8, n: usize, state: u64, offsets: *mut EdgeOffset, offset_count: usize, out: *mut u8, m: usize) -> Step;
 }
 
 /// Bytes that have been opened, and their numbers.

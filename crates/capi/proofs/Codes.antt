@@ -8,16 +8,17 @@ use Rattle.loes.specs.Limits.{maxWidth, maxEdges}
 use Rattle.loes.specs.Bytes.{Bytes}
 use Rattle.loes.specs.Entry.{Entry, count, edgeCount, Valid}
 use Rattle.loes.specs.Refusals.{firstOf}
-use Rattle.loes.specs.Read.{rejected, opened, readTests, readingOf, read, entryIn}
+use Rattle.loes.specs.Read.{opened, readTests, readingOf, read, entryIn}
 use Rattle.loes.specs.Model.{Outcome, tells, refusal, refusedOr, tested, answers, opens}
 use Rattle.loes.specs.Calls.{afterReading, reading, openCall}
 use Rattle.loes.proofs.Reading.{reads-exactly}
 use Rattle.encoding.specs.declared.Encoding.{Encoding}
+use Rattle.encoding.specs.declared.Told.{Told}
+use Rattle.encoding.specs.Answers.{toldOutcome}
 use Rattle.encoding.specs.Opened.{Opens, Placed}
-use Rattle.encoding.proofs.Answers.{open-refused, open-told}
 use Rattle.capi.specs.declared.Answer.{Answer}
 use Rattle.capi.specs.declared.Opened.{Opened}
-use Rattle.capi.specs.Coded.{codeOf, gives, coded, opening, noOpening, openingOf, Told}
+use Rattle.capi.specs.Coded.{codeOf, gives, coded, openingOf, Tells}
 
 pub told : {r : Answer} (o : Outcome) → r ≡ codeOf (o .answer) → gives r (o .buffers) ≡ coded o
 unfolding coded
@@ -31,11 +32,11 @@ pub onward : {r : Answer} {bufs : List Bytes} {o o' : Outcome} → o ≡ o' → 
 onward q p = p ∙ ap coded q
 
 -- ---- Opening
-pub open-no : (l : Bytes) (k : ℕ) (r : Opened) → read l ≡ rejected k → r ≡ noOpening k → r ≡ openingOf (openCall l .answer)
-open-no l k r h q = rw (← open-refused l k h) q
+pub open-by : (l : Bytes) {t t' : Told} {r : Opened} → toldOutcome t ≡ openCall l → t ≡ t' → r ≡ openingOf (toldOutcome t' .answer) → r ≡ openingOf (openCall l .answer)
+open-by l o q p = p ∙ ap (λ (x : Told). openingOf (toldOutcome x .answer)) (sym q) ∙ ap (λ (x : Outcome). openingOf (x .answer)) o
 
-pub open-yes : (l : Bytes) (e : Encoding) (r : Opened) → Opens l e → r ≡ opening (e .width) (e .count) (e .bits) → r ≡ openingOf (openCall l .answer)
-open-yes l e r o q = rw (← open-told l e o) q
+pub open-tells : (l : Bytes) {t t' : Told} → toldOutcome t ≡ openCall l → t ≡ t' → openCall l .answer ≡ toldOutcome t' .answer
+open-tells l o q = ap (λ (x : Outcome). x .answer) (sym o) ∙ ap (λ (x : Told). toldOutcome x .answer) q
 
 -- the numbers that opening tells are the entry's
 pub record Numbers (l : Bytes) (m n b : ℕ) : Type 0 where
@@ -50,7 +51,7 @@ unfolding afterReading readingOf opens answers tested refusedOr firstOf refusal 
 numbers-of l m n b none h q = record { reads = rw h; width = cc; count = cc; bits = cc }
 numbers-of l m n b (some k) h q = let z : _≡_ {A = ℕ} 0 1 = cc in absurd (let y : ⊥ = omega arith in y)
 
-module _ (l : Bytes) (m n b : ℕ) (told : Told m n b l) where
+module _ (l : Bytes) (m n b : ℕ) (told : Tells m n b l) where
   pub told-numbers : Numbers l m n b
   unfolding openCall reading read
   told-numbers = numbers-of l m n b (firstOf (readTests l)) refl told

@@ -70,5 +70,5 @@ openingOf (model.indexIs i) = noOpening 0
 openingOf (model.rankIs r) = noOpening 0
 
 -- these are the numbers that opening tells of bytes: what the functions behind the check rely on
-abbrev pub Told : ℕ → ℕ → ℕ → Bytes → Type 0
-Told m n b l = openCall l .answer ≡ model.tells m n b
+abbrev pub Tells : ℕ → ℕ → ℕ → Bytes → Type 0
+Tells m n b l = openCall l .answer ≡ model.tells m n b

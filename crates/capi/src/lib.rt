@@ -16,7 +16,7 @@ ghost use Rattle.query.specs.Answers as query;
 ghost use Rattle.cursor.specs.Steps as cursor;
 ghost use Rattle.cursor.specs.Steps.{numbers};
 ghost use Rattle.build.specs.Writing as build;
-ghost use Rattle.capi.specs.Coded.{refuses, says, nothing, codeOf, gives, coded, opening, noOpening, openingOf, Told};
+ghost use Rattle.capi.specs.Coded.{refuses, says, nothing, codeOf, gives, coded, opening, noOpening, openingOf, Tells};
 ghost use Rattle.capi.specs.Steps.{walks, moves, stateCode, stateIn, cursorIn, isState, walkedBy, stepAfter, stepCall, walkCall};
 use bits::EdgeOffset;
 use bits::MemberIndex;
@@ -26,6 +26,7 @@ use cursor::Walked;
 use encoding::Checked;
 use encoding::Encoding;
 use encoding::Ranked;
+use encoding::Told;
 use loes::refusal::BAD_CURSOR;
 use query::Bound;
 use query::Lookup;
@@ -185,15 +186,15 @@ fn written(a: build::Written) -> Answer
 }
 
 // ---- Opening
-fn numbers_of(e: Encoding) -> Opened
-    requires { ⌜ e .width ≤ maxWidth ⌝ }
-    ensures { λ r. ⌜ r ≡ opening (e .width) (e .count) (e .bits) ⌝ }
+fn numbers_told(width: usize, count: usize, bits: usize) -> Opened
+    requires { ⌜ width ≤ maxWidth ⌝ }
+    ensures { λ r. ⌜ r ≡ opening width count bits ⌝ }
 {
     Opened {
         refusal: NOT_REFUSED,
-        width: e.width as u32,
-        count: e.count,
-        bits: e.bits,
+        width: width as u32,
+        count,
+        bits,
     }
 }
 
@@ -213,10 +214,9 @@ fn no_opening(k: u8) -> Opened
 pub extern "C" fn loes_open(l: &[u8]) -> Opened
     ensures { λ r. ⌜ r ≡ openingOf (openCall (now (l .entry)) .answer) ⌝ }
 {
-    let t = bits::tallies();
-    match encoding::check(l, &t) {
-        Checked::Refused(k) => no_opening(k),
-        Checked::Opened(e) => numbers_of(e),
+    match encoding::open(l) {
+        Told::Refused(k) => no_opening(k),
+        Told::Numbers(width, count, bits) => numbers_told(width, count, bits),
     }
 }
 
@@ -388,7 +388,7 @@ pub extern "C" fn loes_unchecked_contains(
     l: &[u8],
     key: &[u8],
 ) -> Answer
-    requires { ⌜ Told width count bits (now l) ⌝ }
+    requires { ⌜ Tells width count bits (now l) ⌝ }
     ensures { λ r. ⌜ gives r [] ≡ coded (containsCall (now (l .entry)) (now (key .entry))) ⌝ }
 {
     let t = bits::tallies();
@@ -404,7 +404,7 @@ pub extern "C" fn loes_unchecked_index_of(
     l: &[u8],
     key: &[u8],
 ) -> Answer
-    requires { ⌜ Told width count bits (now l) ⌝ }
+    requires { ⌜ Tells width count bits (now l) ⌝ }
     ensures { λ r. ⌜ gives r [] ≡ coded (indexOfCall (now (l .entry)) (now (key .entry))) ⌝ }
 {
     let t = bits::tallies();
@@ -420,7 +420,7 @@ pub extern "C" fn loes_unchecked_lower_bound(
     l: &[u8],
     key: &[u8],
 ) -> Answer
-    requires { ⌜ Told width count bits (now l) ⌝ }
+    requires { ⌜ Tells width count bits (now l) ⌝ }
     ensures { λ r. ⌜ gives r [] ≡ coded (lowerBoundCall (now (l .entry)) (now (key .entry))) ⌝ }
 {
     let t = bits::tallies();
@@ -437,7 +437,7 @@ pub extern "C" fn loes_unchecked_key_at(
     index: MemberIndex,
     out: &mut [u8],
 ) -> Answer
-    requires { ⌜ Told width count bits (now l) ⌝ }
+    requires { ⌜ Tells width count bits (now l) ⌝ }
     ensures { λ r. ⌜ gives r (now (out .exit) ∷ []) ≡ coded (keyAtCall (now (l .entry)) (index .0) (now (out .entry))) ⌝ }
 {
     let t = bits::tallies();
@@ -454,7 +454,7 @@ pub extern "C" fn loes_unchecked_rank(
     l: &[u8],
     offset: EdgeOffset,
 ) -> Answer
-    requires { ⌜ Told width count bits (now l) ⌝ }
+    requires { ⌜ Tells width count bits (now l) ⌝ }
     ensures { λ r. ⌜ gives r [] ≡ coded (rankCall (now (l .entry)) (offset .0)) ⌝ }
 {
     let t = bits::tallies();
@@ -485,7 +485,7 @@ pub extern "C" fn loes_unchecked_advance(
     offsets: &mut [usize],
     out: &mut [u8],
 ) -> Step
-    requires { ⌜ Told width count bits (now l) ⌝ }
+    requires { ⌜ Tells width count bits (now l) ⌝ }
     ensures { λ r. ⌜ walks (r .answer) (r .state) (now (offsets .exit)) (now (out .exit)) ≡ stepCall (now (l .entry)) state (now (offsets .entry)) (now (out .entry)) ⌝ }
 {
     if state > AFTER {
@@ -511,7 +511,7 @@ pub extern "C" fn loes_unchecked_next(
     offsets: &mut [usize],
     out: &mut [u8],
 ) -> Step
-    requires { ⌜ Told width count bits (now l) × (isState state ≡ true) × (isCursorOf (entryIn (now l)) (cursorIn state (now offsets)) ≡ true) ⌝ }
+    requires { ⌜ Tells width count bits (now l) × (isState state ≡ true) × (isCursorOf (entryIn (now l)) (cursorIn state (now offsets)) ≡ true) ⌝ }
     ensures { λ r. ⌜ walks (r .answer) (r .state) (now (offsets .exit)) (now (out .exit)) ≡ stepCall (now (l .entry)) state (now (offsets .entry)) (now (out .entry)) ⌝ }
 {
     let e = Encoding::new(width, count, bits);
@@ -530,7 +530,7 @@ pub extern "C" fn loes_unchecked_walk(
     offsets: &mut [usize],
     out: &mut [u8],
 ) -> Step
-    requires { ⌜ Told width count bits (now l) × (isState state ≡ true) × (isCursorOf (entryIn (now l)) (cursorIn state (now offsets)) ≡ true) ⌝ }
+    requires { ⌜ Tells width count bits (now l) × (isState state ≡ true) × (isCursorOf (entryIn (now l)) (cursorIn state (now offsets)) ≡ true) ⌝ }
     ensures { λ r. ⌜ walks (r .answer) (r .state) (now (offsets .exit)) (now (out .exit)) ≡ walkCall (now (l .entry)) state (now (offsets .entry)) (now (out .entry)) ⌝ }
 {
     let e = Encoding::new(width, count, bits);

@@ -10,7 +10,7 @@ use lib.Dec.{ltb}
 use borrow.Author.Tests.{ne-eqb}
 use Rattle.loes.specs.Bytes.{bit, odd, tabulate}
 use Rattle.loes.specs.Keys.{Key, KeySet, members}
-use Rattle.loes.specs.Edges.{ones, rank, edges}
+use Rattle.loes.specs.Edges.{rank, edges}
 use Rattle.loes.proofs.Bits.{bit-odd}
 use Rattle.loes.proofs.Tests.{lt-yes, lt-no, eq-yes}
 use Rattle.loes.proofs.Tree.{half, inhabited, hasPrefix, prefixesBefore, bit-le, prefix-whole, members-at}

@@ -1,4 +1,4 @@
--- What the public calls answer, as outcomes of the model: document 01's number and values for each case.
+-- What the calls answer, as outcomes of the model: document 01's number and values for each case.
 use Rattle.loes.specs.Model.{refused, tells, rankIs, Outcome, saying}
 use Rattle.encoding.specs.declared.Told.{Told}
 use Rattle.encoding.specs.declared.Told.the-variants.{Refused, Numbers}

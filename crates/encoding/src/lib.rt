@@ -496,7 +496,7 @@ fn agrees(l: &[u8], t: &[u8], e: Encoding) -> bool
     e.count + e.bits / 2 == roots_of(e.bits) + n + k
 }
 
-// The full check behind every public call.
+// The full check, behind every call that takes an encoding.
 pub fn check(l: &[u8], t: &[u8]) -> Checked
     requires { ⌜ Tallies (now t) ⌝ }
     ensures { λ r. ⌜ Checks (now (l .entry)) r ⌝ }
@@ -537,7 +537,7 @@ pub fn edge_at(l: &[u8], e: Encoding, o: EdgeOffset) -> bool
     bits::bit_at(l, 8 * e.edges + o.0)
 }
 
-// ---- Public calls
+// ---- Calls
 // m, n and b, or the refusal.
 pub enum Told {
     Refused(u8),

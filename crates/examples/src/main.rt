@@ -271,18 +271,13 @@ fn bytes_in(cursor: Cursor) -> [u8; CURSOR_SHOWN]
     bytes
 }
 
-// The cursor after the step is put, the bytes written are the answer: 0 where it goes to after.
+// The cursor after the step is put, the bytes written are the answer; a step to after has none.
 fn advance(l: &[u8], from: &[u8], out: &mut [u8]) -> Answer {
     let s = capi::advanced(l, cursor_of(from), out);
     let to = s.cursor;
     let shown = bytes_in(to);
     put_bytes(&shown);
-    let answer = s.answer;
-    Answer {
-        refusal: answer.refusal,
-        found: FOUND,
-        value: answer.value,
-    }
+    s.answer
 }
 
 // The call that begins with a letter.

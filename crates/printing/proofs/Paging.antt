@@ -1,6 +1,6 @@
 -- One more line, one page behind another.
 use mathlib.Core.Path.{_≡_, refl, sym, ap, ap₂, _∙_}
-use Prim.Native.Nat.{ℕ, zero, suc, _+_, _≤_, _<_}
+use Prim.Native.Nat.{ℕ, zero, suc, _+_, _-_, _≤_, _<_}
 use mathlib.Core.List.{List, [], _++_, append-assoc, append-nil}
 use native.Mathlib.Omega.{arith}
 use lib.ListN.{length, take, drop, getD, replicate}
@@ -74,6 +74,12 @@ fills-some e p r d d1 f full lt room = go (f .lines) (f .index) (f .puts)
     go : (n : ℕ) → r .index .0 ≡ p .index .0 + n → Puts (p .length) (linesFrom e (p .index .0) n) d (r .length) d1 → p .index .0 < r .index .0
     go zero i q = unfold linesFrom in absurd (omega (arith, full (omega arith), q .ends, puts-length q))
     go (suc n) i q = omega arith
+
+-- what stands in it from the front
+pub fills-front : (e : Entry) (p r : Page) (d d1 : Bytes) → Fills e p d r d1 → p .length ≡ 0 → take (r .length) d1 ≡ linesFrom e (p .index .0) (r .index .0 - p .index .0)
+fills-front e p r d d1 f z =
+    let n : f .lines ≡ r .index .0 - p .index .0 = omega (arith, f .index) in
+    puts-front (rw z at (f .puts)) ∙ ap (linesFrom e (p .index .0)) n
 
 -- ---- Pages
 lines-add : (e : Entry) (i n m : ℕ) → linesFrom e i (n + m) ≡ linesFrom e i n ++ linesFrom e (i + n) m

@@ -7,18 +7,18 @@ use native.Mathlib.Numerals.{add-one}
 use lib.ListN.{length, take, drop, set, getD, length-append, length-drop, take-append-drop}
 use lib.Seq.{length-take-le, take-suc, set-split, append-snoc, take-at, drop-append-add, drop-drop}
 use Rattle.loes.specs.Bytes.{Bytes}
-use Rattle.printing.specs.Text.{putAt, Puts}
+use Rattle.printing.specs.Text.{withText, Puts}
 
 -- nothing was put yet
 pub puts-none : (at end : ℕ) (d : Bytes) → at ≤ length d → end ≡ at → Puts at [] d end d
-unfolding putAt
+unfolding withText
 puts-none at end d h e =
     let z : at + 0 ≡ at = omega arith in
     record { room = omega arith; ends = e ∙ sym z; text = sym (ap₂ _++_ (append-nil (take at d)) (ap (λ n. drop n d) z) ∙ take-append-drop at d) }
 
 -- a byte was stored
 pub puts-byte : (at b : ℕ) (d : Bytes) → at < length d → Puts at (b ∷ []) d (at + 1) (set d at b)
-unfolding putAt
+unfolding withText
 puts-byte at b d h =
     let z : at + 1 ≡ suc at = omega arith in
     record { room = omega arith; ends = refl; text = set-split d at b h ∙ sym (append-snoc (take at d) b (drop (suc at) d)) ∙ ap (λ n. take at d ++ b ∷ [] ++ drop n d) (sym z) }
@@ -31,7 +31,7 @@ module _ {at m : ℕ} {s d d1 : Bytes} (p : Puts at s d m d1) where
   long = let h : at ≤ length d = omega (arith, p .room) in length-append (take at d) s ∙ ap (λ n. n + length s) (length-take-le at d h) ∙ sym (p .ends)
 
   is : d1 ≡ head ++ drop m d
-  unfolding putAt
+  unfolding withText
   is = p .text ∙ ap (λ n. head ++ drop n d) (sym (p .ends))
 
   -- the buffer keeps its length, and what was put ends within it
@@ -43,7 +43,7 @@ module _ {at m : ℕ} {s d d1 : Bytes} (p : Puts at s d m d1) where
 
   -- another text behind it
   pub puts-then : {r : ℕ} {t d2 : Bytes} → Puts m t d1 r d2 → Puts at (s ++ t) d r d2
-  unfolding putAt
+  unfolding withText
   puts-then {r} {t} {d2} q =
       let before : take m d1 ≡ head = ap (take m) is ∙ take-at head (drop m d) m long in
       let behind : drop (m + length t) d1 ≡ drop (m + length t) d =
@@ -64,7 +64,7 @@ puts-more at i s d d1 room h p =
 
 -- what was put at the front
 pub puts-front : {s d : Bytes} {r : ℕ} {d1 : Bytes} → Puts 0 s d r d1 → take r d1 ≡ s
-unfolding putAt
+unfolding withText
 puts-front {s} {d} p =
     let z : 0 + length s ≡ length s = omega arith in
     ap₂ take (p .ends ∙ z) (p .text) ∙ take-at s (drop (0 + length s) d) (length s) refl

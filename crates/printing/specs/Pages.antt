@@ -33,7 +33,7 @@ pub record Fills (e : Entry) (p : Page) (d : Bytes) (r : Page) (d' : Bytes) : Ty
   pub puts : Puts (p .length) (linesFrom e (p .index .0) lines) d (r .length) d'
   pub stands : Stands e r
 
--- r comes to the last member, or has room for no other line
+-- r comes to the last member, or has less room than any line may take
 abbrev pub Full : Entry → Page → Bytes → Type 0
 Full e r d' = r .index .0 < count e → length d' < r .length + maxLine
 

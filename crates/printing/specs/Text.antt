@@ -86,11 +86,11 @@ unfoldable pub linesOf : Entry → Bytes
 linesOf e = numbersLine (e .width) (count e) (edgeCount e) ++ linesFrom e 0 (count e)
 
 -- ---- Text put into a buffer at a place: what is before it and behind it keeps its value
-unfoldable pub putAt : ℕ → Bytes → Bytes → Bytes
-putAt at s d = take at d ++ s ++ drop (at + length s) d
+unfoldable pub withText : ℕ → Bytes → Bytes → Bytes
+withText at s d = take at d ++ s ++ drop (at + length s) d
 
 -- s was put into d at a place where it has room: where it ends, and what d became
 pub record Puts (at : ℕ) (s d : Bytes) (end : ℕ) (d' : Bytes) : Type 0 where
   pub room : at + length s ≤ length d
   pub ends : end ≡ at + length s
-  pub text : d' ≡ putAt at s d
+  pub text : d' ≡ withText at s d

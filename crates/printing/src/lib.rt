@@ -1,5 +1,5 @@
 // Prints an encoding: a line of its numbers, then a line for each member, its index and its key's bytes.
-ghost use Prim.Native.Nat.{_+_, _<_, _≤_};
+ghost use Prim.Native.Nat.{_+_, _-_, _<_, _≤_};
 ghost use mathlib.Core.Path.{_≡_};
 ghost use mathlib.Core.List.{[], _∷_};
 ghost use lib.ListN.{length};
@@ -9,7 +9,7 @@ ghost use Rattle.loes.specs.Cursor as spec;
 ghost use Rattle.bits.specs.Tables.{Tallies};
 ghost use Rattle.encoding.specs.Opened.{Opens};
 ghost use Rattle.cursor.specs.Steps.{cursorOf, steppedOf};
-ghost use Rattle.printing.specs.Text.{decimal, named, hexDigit, hex, numbersLine, memberLine, refusedLine, maxLine, Puts};
+ghost use Rattle.printing.specs.Text.{decimal, named, hexDigit, hex, numbersLine, memberLine, refusedLine, linesFrom, maxLine, Puts};
 ghost use Rattle.printing.specs.Pages.{Stands, PutsNext, Fills, Full};
 use bits::MemberIndex;
 use cursor::Cursor;
@@ -19,7 +19,7 @@ use encoding::Encoding;
 use libc::STDIN_FILENO;
 use libc::STDOUT_FILENO;
 
-// No line is longer: an index of 20 digits, a space, a key of 32 bytes and a line feed.
+// Room for any line: an index of 20 digits, a space, a key of 32 bytes and a line feed are 86 bytes, and the first line is no longer.
 const LINE: usize = 96;
 
 const KEY_BYTES: usize = Encoding::MAX_WIDTH / 8;
@@ -100,7 +100,7 @@ fn put_named(text: &mut [u8], at: usize, word: &[u8], n: usize) -> usize
 }
 
 // The numbers of an encoding: width, members and edge bits, in the words that document 01 prints.
-pub fn put_numbers(text: &mut [u8], at: usize, e: Encoding) -> usize
+fn put_numbers(text: &mut [u8], at: usize, e: Encoding) -> usize
     requires { ⌜ at + length (numbersLine (e .width) (e .count) (e .bits)) ≤ length (now text) ⌝ }
     ensures { λ r. ⌜ Puts at (numbersLine (e .width) (e .count) (e .bits)) (now (text .entry)) r (now (text .exit)) ⌝ }
 {
@@ -111,7 +111,7 @@ pub fn put_numbers(text: &mut [u8], at: usize, e: Encoding) -> usize
 }
 
 // A member: its index and its key.
-pub fn put_member(text: &mut [u8], at: usize, index: MemberIndex, key: &[u8]) -> usize
+fn put_member(text: &mut [u8], at: usize, index: MemberIndex, key: &[u8]) -> usize
     requires { ⌜ at + length (memberLine (index .0) (now key)) ≤ length (now text) ⌝ }
     ensures { λ r. ⌜ Puts at (memberLine (index .0) (now (key .entry))) (now (text .entry)) r (now (text .exit)) ⌝ }
 {
@@ -122,7 +122,7 @@ pub fn put_member(text: &mut [u8], at: usize, index: MemberIndex, key: &[u8]) ->
 }
 
 // A refusal: its number.
-pub fn put_refused(text: &mut [u8], at: usize, k: u8) -> usize
+fn put_refused(text: &mut [u8], at: usize, k: u8) -> usize
     requires { ⌜ at + length (refusedLine k) ≤ length (now text) ⌝ }
     ensures { λ r. ⌜ Puts at (refusedLine k) (now (text .entry)) r (now (text .exit)) ⌝ }
 {
@@ -171,7 +171,7 @@ fn put_next(l: &[u8], t: &[u8], e: Encoding, p: Page, text: &mut [u8]) -> Page
 }
 
 // As many more lines as there are members and room for.
-pub fn fill(l: &[u8], t: &[u8], e: Encoding, from: Page, text: &mut [u8]) -> Page
+fn fill(l: &[u8], t: &[u8], e: Encoding, from: Page, text: &mut [u8]) -> Page
     requires { ⌜ Opens (now l) e × Tallies (now t) × Stands (entryIn (now l)) from × (from .length ≤ length (now text)) ⌝ }
     ensures { λ r. ⌜ Fills (entryIn (now (l .entry))) from (now (text .entry)) r (now (text .exit)) × Full (entryIn (now (l .entry))) r (now (text .exit)) ⌝ }
 {
@@ -185,17 +185,30 @@ pub fn fill(l: &[u8], t: &[u8], e: Encoding, from: Page, text: &mut [u8]) -> Pag
     p
 }
 
-// ---- Writing: no contract speaks of what leaves the process, or enters it
-fn flush(text: &[u8], n: usize)
-    requires { ⌜ n ≤ length (now text) ⌝ }
+// ---- Writing: each is lent its text and nothing else; no contract speaks of what leaves the process
+fn write_numbers(e: Encoding, text: &[u8])
+    requires { ⌜ now text ≡ numbersLine (e .width) (e .count) (e .bits) ⌝ }
 {
-    io::write_all(STDOUT_FILENO, &text[..n]);
+    io::write_all(STDOUT_FILENO, text);
+}
+
+// The lines of the members from one index up to another.
+fn write_members(l: &[u8], from: MemberIndex, to: MemberIndex, text: &[u8])
+    requires { ⌜ now text ≡ linesFrom (entryIn (now l)) (from .0) (to .0 - from .0) ⌝ }
+{
+    io::write_all(STDOUT_FILENO, text);
+}
+
+fn write_refused(k: u8, text: &[u8])
+    requires { ⌜ now text ≡ refusedLine k ⌝ }
+{
+    io::write_all(STDOUT_FILENO, text);
 }
 
 fn print_numbers(e: Encoding) {
     let mut text = [0u8; LINE];
     let n = put_numbers(&mut text, 0, e);
-    flush(&text, n);
+    write_numbers(e, &text[..n]);
 }
 
 // Prints a page of lines, and returns one that goes on from it.
@@ -205,7 +218,8 @@ fn print_page(l: &[u8], t: &[u8], e: Encoding, from: Page) -> Page
 {
     let mut text = io::buffer();
     let p = fill(l, t, e, from, &mut text);
-    flush(&text, p.length);
+    let n = p.length;
+    write_members(l, from.index, p.index, &text[..n]);
     let mut next = p;
     next.length = 0;
     next
@@ -230,7 +244,7 @@ fn print_members(l: &[u8], t: &[u8], e: Encoding) -> MemberIndex
 fn print_refused(k: u8) {
     let mut text = [0u8; LINE];
     let n = put_refused(&mut text, 0, k);
-    flush(&text, n);
+    write_refused(k, &text[..n]);
 }
 
 // Prints the encoding that bytes are, or their refusal.

@@ -231,7 +231,7 @@ pub fn nearly(rng: &mut Rng) -> Vec<u8> {
 pub fn damaged_cursor(rng: &mut Rng, laid: &Laid, places: &[&Cursor]) -> Cursor {
     let mut cursor = (*rng.pick(places)).clone();
     let m = laid.width();
-    match rng.below(9) {
+    match rng.below(8) {
         // an offset
         0 => {
             let i = rng.below(m);

@@ -1,19 +1,10 @@
-use mathlib.Core.Path.{subst}
-use Rattle.encoding.specs.Fields.{Checks}
-use Rattle.encoding.proofs.Opened.{opens-room}
-use Rattle.capi.proofs.Codes.{open-no, open-yes}
+use Rattle.capi.proofs.Codes.{open-by, open-tells, told-room}
 use borrow.Author.Needs.{needs}
 use Rattle.capi.proofs.loes_open.Statement.{statement}
 use Rattle.capi.proofs.loes_open.Tie as tie
 
-tallies-requires : tie.Need-tallies-requires
-tallies-requires c κs = search needs
-
-slice-aggregate-check : tie.Need-slice-aggregate-check
-slice-aggregate-check c = search needs
-
-check-requires : tie.Need-check-requires
-check-requires c κs = search needs
+open-requires : tie.Need-open-requires
+open-requires c κs = search needs
 
 enum-known-k : tie.Need-enum-known-k
 enum-known-k c = search needs
@@ -21,28 +12,26 @@ enum-known-k c = search needs
 no-opening-requires : tie.Need-no-opening-requires
 no-opening-requires c κs = search needs
 
-enum-known-e : tie.Need-enum-known-e
-enum-known-e c = search needs
+enum-known-width : tie.Need-enum-known-width
+enum-known-width c = search needs
 
-numbers-of-requires : tie.Need-numbers-of-requires
-numbers-of-requires c κs = opens-room _ _ (subst (Checks _) (c .before .e .given .1) (c .before .before .before .check .ensures)) .narrow
+numbers-told-requires : tie.Need-numbers-told-requires
+numbers-told-requires c κs = told-room _ _ _ _ (open-tells _ (c .before .before .before .open .ensures) (c .before .width .given .1)) .0
 
 returns : tie.Need-returns
-returns c = open-no _ _ _ (subst (Checks _) (c .before .before .k .given .1) (c .before .before .before .before .check .ensures)) (c .no-opening .ensures)
+returns c = open-by _ (c .before .before .before .before .open .ensures) (c .before .before .k .given .1) (c .no-opening .ensures)
 
 returns-2 : tie.Need-returns-2
-returns-2 c = open-yes _ _ _ (subst (Checks _) (c .before .before .e .given .1) (c .before .before .before .before .check .ensures)) (c .numbers-of .ensures)
+returns-2 c = open-by _ (c .before .before .before .before .open .ensures) (c .before .before .width .given .1) (c .numbers-told .ensures)
 
 pub loes-open-spec : {M : Type 1} → statement M
 loes-open-spec =
     tie.close
     (tie.spec
-    tallies-requires
-    slice-aggregate-check
-    check-requires
+    open-requires
     enum-known-k
     no-opening-requires
-    enum-known-e
-    numbers-of-requires
+    enum-known-width
+    numbers-told-requires
     returns
     returns-2)

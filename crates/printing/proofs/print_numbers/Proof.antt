@@ -1,7 +1,10 @@
+use mathlib.Core.Path.{sym}
 use Prim.Native.Nat.{_<_, _^_}
 use native.Mathlib.Omega.{arith}
-use borrow.Author.Needs.{needs}
+use lib.Seq.{length-take-le}
+use Rattle.printing.proofs.Putting.{puts-within, puts-front}
 use Rattle.printing.proofs.Lines.{numbers-most}
+use borrow.Author.Needs.{needs}
 use Rattle.printing.proofs.print_numbers.Statement.{statement}
 use Rattle.printing.proofs.print_numbers.Tie as tie
 
@@ -11,11 +14,14 @@ slice-aggregate-put-numbers c = search needs
 put-numbers-requires : tie.Need-put-numbers-requires
 put-numbers-requires c κs = let e = c .before .args .e in let m : e .width < 2 ^ 64 = omega arith in let n : e .count < 2 ^ 64 = omega arith in let b : e .bits < 2 ^ 64 = omega arith in omega (arith, numbers-most (e .width) (e .count) (e .bits) m n b)
 
-slice-aggregate-flush : tie.Need-slice-aggregate-flush
-slice-aggregate-flush c = search needs
+array-share-prefix-text : tie.Need-array-share-prefix-text
+array-share-prefix-text c = search needs
 
-flush-requires : tie.Need-flush-requires
-flush-requires c κs = search needs
+slice-aggregate-write-numbers : tie.Need-slice-aggregate-write-numbers
+slice-aggregate-write-numbers c = sym (length-take-le _ _ (puts-within (c .before .before .put-numbers .ensures)))
+
+write-numbers-requires : tie.Need-write-numbers-requires
+write-numbers-requires c κs = puts-front (c .before .before .put-numbers .ensures)
 
 returns : tie.Need-returns
 returns c = search needs
@@ -26,6 +32,7 @@ print-numbers-spec =
     (tie.spec
     slice-aggregate-put-numbers
     put-numbers-requires
-    slice-aggregate-flush
-    flush-requires
+    array-share-prefix-text
+    slice-aggregate-write-numbers
+    write-numbers-requires
     returns)

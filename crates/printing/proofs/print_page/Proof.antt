@@ -1,11 +1,13 @@
-use mathlib.Core.Path.{refl}
+use mathlib.Core.Path.{refl, sym}
 use Prim.Native.Nat.{_<_}
 use native.Mathlib.Omega.{arith}
-use borrow.Author.Needs.{needs}
+use lib.Seq.{length-take-le}
 use denote.Ref.{now}
 use Rattle.loes.specs.Entry.{count}
 use Rattle.loes.specs.Read.{entryIn}
-use Rattle.printing.proofs.Paging.{fills-some}
+use Rattle.printing.proofs.Putting.{puts-within}
+use Rattle.printing.proofs.Paging.{fills-front, fills-some}
+use borrow.Author.Needs.{needs}
 use Rattle.printing.proofs.print_page.Statement.{statement}
 use Rattle.printing.proofs.print_page.Tie as tie
 
@@ -18,11 +20,14 @@ slice-aggregate-fill c = search needs
 fill-requires : tie.Need-fill-requires
 fill-requires c κs = search needs
 
-slice-aggregate-flush : tie.Need-slice-aggregate-flush
-slice-aggregate-flush c = search needs
+array-share-prefix-text : tie.Need-array-share-prefix-text
+array-share-prefix-text c = search needs
 
-flush-requires : tie.Need-flush-requires
-flush-requires c κs = search needs
+slice-aggregate-write-members : tie.Need-slice-aggregate-write-members
+slice-aggregate-write-members c = sym (length-take-le _ _ (puts-within (c .before .before .fill .ensures .0 .puts)))
+
+write-members-requires : tie.Need-write-members-requires
+write-members-requires c κs = fills-front _ _ _ _ _ (c .before .before .fill .ensures .0) (c .before .before .before .before .before .before .before .pre .3)
 
 returns : tie.Need-returns
 returns c =
@@ -39,6 +44,7 @@ print-page-spec =
     buffer-requires
     slice-aggregate-fill
     fill-requires
-    slice-aggregate-flush
-    flush-requires
+    array-share-prefix-text
+    slice-aggregate-write-members
+    write-members-requires
     returns)

@@ -1,6 +1,9 @@
+use mathlib.Core.Path.{sym}
 use native.Mathlib.Omega.{arith}
-use borrow.Author.Needs.{needs}
+use lib.Seq.{length-take-le}
+use Rattle.printing.proofs.Putting.{puts-within, puts-front}
 use Rattle.printing.proofs.Lines.{refused-most}
+use borrow.Author.Needs.{needs}
 use Rattle.printing.proofs.print_refused.Statement.{statement}
 use Rattle.printing.proofs.print_refused.Tie as tie
 
@@ -10,11 +13,14 @@ slice-aggregate-put-refused c = search needs
 put-refused-requires : tie.Need-put-refused-requires
 put-refused-requires c κs = let k = c .before .args .k in omega (arith, refused-most k (omega arith))
 
-slice-aggregate-flush : tie.Need-slice-aggregate-flush
-slice-aggregate-flush c = search needs
+array-share-prefix-text : tie.Need-array-share-prefix-text
+array-share-prefix-text c = search needs
 
-flush-requires : tie.Need-flush-requires
-flush-requires c κs = search needs
+slice-aggregate-write-refused : tie.Need-slice-aggregate-write-refused
+slice-aggregate-write-refused c = sym (length-take-le _ _ (puts-within (c .before .before .put-refused .ensures)))
+
+write-refused-requires : tie.Need-write-refused-requires
+write-refused-requires c κs = puts-front (c .before .before .put-refused .ensures)
 
 returns : tie.Need-returns
 returns c = search needs
@@ -25,6 +31,7 @@ print-refused-spec =
     (tie.spec
     slice-aggregate-put-refused
     put-refused-requires
-    slice-aggregate-flush
-    flush-requires
+    array-share-prefix-text
+    slice-aggregate-write-refused
+    write-refused-requires
     returns)
