@@ -9,7 +9,7 @@ use Rattle.loes.specs.Bytes.{Bytes}
 use Rattle.loes.specs.Entry.{Entry, count, edgeCount, Valid}
 use Rattle.loes.specs.Refusals.{firstOf}
 use Rattle.loes.specs.Read.{opened, readTests, readingOf, read, entryIn}
-use Rattle.loes.specs.Model.{Outcome, tells, refusal, refusedOr, tested, answers, opens}
+use Rattle.loes.specs.Model.{Outcome, refused, tells, refusal, refusedOr, tested, answers, opens}
 use Rattle.loes.specs.Calls.{afterReading, reading, openCall}
 use Rattle.loes.proofs.Reading.{reads-exactly}
 use Rattle.encoding.specs.declared.Encoding.{Encoding}
@@ -18,7 +18,8 @@ use Rattle.encoding.specs.Answers.{toldOutcome}
 use Rattle.encoding.specs.Opened.{Opens, Placed}
 use Rattle.capi.specs.declared.Answer.{Answer}
 use Rattle.capi.specs.declared.Opened.{Opened}
-use Rattle.capi.specs.Coded.{codeOf, gives, coded, openingOf, Tells}
+use Rattle.capi.specs.Coded.{codeOf, gives, coded, opening, noOpening, openingOf, Tells}
+use Rattle.capi.proofs.Positive.{refused-positive}
 
 pub told : {r : Answer} (o : Outcome) → r ≡ codeOf (o .answer) → gives r (o .buffers) ≡ coded o
 unfolding coded
@@ -32,11 +33,20 @@ pub onward : {r : Answer} {bufs : List Bytes} {o o' : Outcome} → o ≡ o' → 
 onward q p = p ∙ ap coded q
 
 -- ---- Opening
-pub open-by : (l : Bytes) {t t' : Told} {r : Opened} → toldOutcome t ≡ openCall l → t ≡ t' → r ≡ openingOf (toldOutcome t' .answer) → r ≡ openingOf (openCall l .answer)
-open-by l o q p = p ∙ ap (λ (x : Told). openingOf (toldOutcome x .answer)) (sym q) ∙ ap (λ (x : Outcome). openingOf (x .answer)) o
+abbrev pub Opening : Bytes → Opened → Type 0
+Opening l r = (r ≡ openingOf (openCall l .answer)) × (r .refusal ≡ 0 → Tells (r .width) (r .count) (r .bits) l)
 
-pub open-tells : (l : Bytes) {t t' : Told} → toldOutcome t ≡ openCall l → t ≡ t' → openCall l .answer ≡ toldOutcome t' .answer
-open-tells l o q = ap (λ (x : Outcome). x .answer) (sym o) ∙ ap (λ (x : Told). toldOutcome x .answer) q
+pub open-answer : (l : Bytes) {t t' : Told} → toldOutcome t ≡ openCall l → t ≡ t' → openCall l .answer ≡ toldOutcome t' .answer
+open-answer l o q = ap (λ (x : Outcome). x .answer) (sym o) ∙ ap (λ (x : Told). toldOutcome x .answer) q
+
+pub open-no : (l : Bytes) (k : ℕ) (r : Opened) → openCall l .answer ≡ refused k → r ≡ noOpening k → Opening l r
+open-no l k r a q = (
+  q ∙ ap openingOf (sym a),
+  λ z. let y : r .refusal ≡ k = ap (λ (x : Opened). x .refusal) q in absurd (let x : ⊥ = omega (arith, refused-positive l k a) in x),
+)
+
+pub open-yes : (l : Bytes) (m n b : ℕ) (r : Opened) → openCall l .answer ≡ tells m n b → r ≡ opening m n b → Opening l r
+open-yes l m n b r a q = (q ∙ ap openingOf (sym a), λ z. rw q a)
 
 -- the numbers that opening tells are the entry's
 pub record Numbers (l : Bytes) (m n b : ℕ) : Type 0 where

@@ -209,10 +209,10 @@ fn no_opening(k: u8) -> Opened
     }
 }
 
-// Checks an encoding whole and tells its numbers.
+// Checks an encoding whole and tells its numbers, which are what the functions behind the check ask for.
 #[no_mangle]
 pub extern "C" fn loes_open(l: &[u8]) -> Opened
-    ensures { λ r. ⌜ r ≡ openingOf (openCall (now (l .entry)) .answer) ⌝ }
+    ensures { λ r. ⌜ (r ≡ openingOf (openCall (now (l .entry)) .answer)) × (r .refusal ≡ 0 → Tells (r .width) (r .count) (r .bits) (now (l .entry))) ⌝ }
 {
     match encoding::open(l) {
         Told::Refused(k) => no_opening(k),
