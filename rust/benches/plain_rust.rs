@@ -649,7 +649,7 @@ fn mark_key(key: &[u8], new: usize, cursors: &mut [usize], edges: &mut [u8]) {
     }
 }
 
-/// Sets the edges of all keys, with a cursor for each level, behind its last record.
+/// Sets the edges of all keys on the levels that have a cursor, which is behind the level's last record.
 fn mark_keys(batch: &[u8], t: usize, cursors: &mut [usize], edges: &mut [u8]) {
     let mut before = None;
     for key in batch.chunks_exact(t) {

@@ -1,5 +1,5 @@
 -- From the calls' answers to their codes.
-use mathlib.Core.Path.{_≡_, refl, sym, ap, _∙_}
+use mathlib.Core.Path.{_≡_, refl, sym, ap, subst, _∙_}
 use Prim.Native.Nat.{ℕ, _≤_}
 use mathlib.Core.List.{List, []}
 use mathlib.Core.Option.{Option, none, some}
@@ -18,8 +18,8 @@ use Rattle.encoding.specs.Answers.{toldOutcome}
 use Rattle.encoding.specs.Opened.{Opens, Placed}
 use Rattle.capi.specs.declared.Answer.{Answer}
 use Rattle.capi.specs.declared.Opened.{Opened}
-use Rattle.capi.specs.Coded.{codeOf, gives, coded, opening, noOpening, openingOf, Tells}
-use Rattle.capi.proofs.Positive.{refused-positive}
+use Rattle.capi.specs.Coded.{codeOf, gives, coded, Positive, opening, noOpening, openingOf, Tells}
+use Rattle.capi.proofs.NoZero.{zero-is-no-refusal}
 
 pub told : {r : Answer} (o : Outcome) → r ≡ codeOf (o .answer) → gives r (o .buffers) ≡ coded o
 unfolding coded
@@ -42,7 +42,7 @@ open-answer l o q = ap (λ (x : Outcome). x .answer) (sym o) ∙ ap (λ (x : Tol
 pub open-no : (l : Bytes) (k : ℕ) (r : Opened) → openCall l .answer ≡ refused k → r ≡ noOpening k → Opening l r
 open-no l k r a q = (
   q ∙ ap openingOf (sym a),
-  λ z. let y : r .refusal ≡ k = ap (λ (x : Opened). x .refusal) q in absurd (let x : ⊥ = omega (arith, refused-positive l k a) in x),
+  λ z. let y : r .refusal ≡ k = ap (λ (x : Opened). x .refusal) q in absurd (let x : ⊥ = omega (arith, subst Positive a (zero-is-no-refusal .opening l)) in x),
 )
 
 pub open-yes : (l : Bytes) (m n b : ℕ) (r : Opened) → openCall l .answer ≡ tells m n b → r ≡ opening m n b → Opening l r

@@ -1,4 +1,4 @@
 -- From the calls' answers to their codes.
-pub mod Positive
+pub mod NoZero
 pub mod Codes
 pub mod Steps

@@ -1,12 +1,13 @@
 -- The model's answers as C has them: the refusal's number, whether what was asked for is there, and a value.
 use mathlib.Core.Path.{_≡_}
-use Prim.Native.Nat.{ℕ}
+use Prim.Native.Nat.{ℕ, _<_}
 use mathlib.Core.Bool.{cond}
 use mathlib.Core.List.{List, [], _∷_}
 use lib.Dec.{eqb}
 use Rattle.loes.specs.Bytes.{Bytes}
 use Rattle.loes.specs.Model as model
-use Rattle.loes.specs.Calls.{openCall}
+use Rattle.loes.specs.Calls.{openCall, packCall, unionCall, differenceCall, containsCall, indexOfCall, lowerBoundCall, keyAtCall, rankCall}
+use Rattle.loes.specs.Cursor.{Cursor, advanceCall}
 use Rattle.capi.specs.declared.Answer.{Answer}
 use Rattle.capi.specs.declared.Opened.{Opened}
 
@@ -38,6 +39,32 @@ codeOf model.isNone = nothing
 codeOf (model.indexIs i) = says i
 codeOf (model.rankIs r) = says r
 
+-- ---- 0 says that a call is not refused
+abbrev pub Positive : model.Answer → Type 0
+Positive (model.refused k) = 0 < k
+Positive (model.wrote ns) = Unit {0}
+Positive (model.wroteKey n) = Unit {0}
+Positive (model.tells m n b) = Unit {0}
+Positive model.isPresent = Unit {0}
+Positive model.isAbsent = Unit {0}
+Positive model.isNone = Unit {0}
+Positive (model.indexIs i) = Unit {0}
+Positive (model.rankIs r) = Unit {0}
+
+-- no call is refused with 0, whatever it is given
+pub record ZeroIsNoRefusal : Type 0 where
+  pub opening : (l : Bytes) → Positive (openCall l .answer)
+  pub pack : (m : ℕ) (batch out : Bytes) → Positive (packCall m batch out .answer)
+  pub union : (a b out : Bytes) → Positive (unionCall a b out .answer)
+  pub difference : (a b out : Bytes) → Positive (differenceCall a b out .answer)
+  pub contains : (l x : Bytes) → Positive (containsCall l x .answer)
+  pub indexOf : (l x : Bytes) → Positive (indexOfCall l x .answer)
+  pub lowerBound : (l x : Bytes) → Positive (lowerBoundCall l x .answer)
+  pub keyAt : (l : Bytes) (i : ℕ) (out : Bytes) → Positive (keyAtCall l i out .answer)
+  pub rank : (l : Bytes) (o : ℕ) → Positive (rankCall l o .answer)
+  pub advance : (l : Bytes) (c : Cursor) (out : Bytes) → Positive (advanceCall l c out .answer)
+
+-- ---- Calls
 -- a call's answer, and its lent buffers at exit
 pub record Given : Type 0 where
   pub answer : Answer

@@ -1,4 +1,4 @@
--- What the public calls answer.
+-- What the calls answer.
 use mathlib.Core.Path.{_≡_, sym, _∙_}
 use Prim.Native.Nat.{ℕ, suc, _+_, _≤_, _<_}
 use mathlib.Core.Option.{none, some}

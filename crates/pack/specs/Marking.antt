@@ -77,7 +77,7 @@ pub record Row (t n e first : ℕ) (l edges : Bytes) : Type 0 where
   pub fit : 2 * (first + n) ≤ 8 * length edges
   pub small : length edges ≤ maxEdges / 8
 
--- of the records before each level: r is m, or level r has n records
+-- of the records before each level: r is m, or level r, which is not the last, has n records
 pub record Gap (m n : ℕ) (starts : List ℕ) (r : ℕ) : Type 0 where
   pub most : r ≤ m
   pub size : r < m → (suc r < m) × (getD starts (suc r) 0 ≡ getD starts r 0 + n)

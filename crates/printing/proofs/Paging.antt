@@ -7,16 +7,18 @@ use lib.ListN.{length, take, drop, getD, replicate}
 use lib.Seq.{take-at}
 use Rattle.loes.specs.Limits.{maxWidth}
 use Rattle.loes.specs.Bytes.{Bytes, join, started, packBits, front}
-use Rattle.loes.specs.Entry.{Entry, keyBytes, keysOf, count, edgeCount, Valid}
+use Rattle.loes.specs.Entry.{Entry, keyBytes, keysOf, count, Valid}
 use Rattle.loes.specs.Read.{entryIn}
 use Rattle.loes.specs.Model.{wroteKey}
 use Rattle.loes.specs.Cursor.{Advanced, before, padded, isCursorOf, nextIndex, advance}
 use Rattle.loes.proofs.Members.{key-bytes}
 use Rattle.loes.proofs.Cursors.{noOffsets, cursorAt, right-at, right-none, next-at, advance-on}
+use Rattle.encoding.specs.declared.Encoding.{Encoding}
+use Rattle.encoding.specs.Opened.{Opens}
 use Rattle.cursor.specs.declared.Stepped.{Stepped}
 use Rattle.cursor.specs.Steps.{cursorOf, steppedOf}
 use Rattle.printing.specs.declared.Page.{Page}
-use Rattle.printing.specs.Text.{memberLine, keyBytesAt, linesFrom, linesOf, numbersLine, maxLine, Puts}
+use Rattle.printing.specs.Text.{memberLine, keyBytesAt, linesFrom, linesOf, numbersLine, firstLine, maxLine, Puts}
 use Rattle.printing.specs.Pages.{Stands, PutsNext, Fills, Full, Printed, over, page, PagesAreLines}
 use Rattle.printing.proofs.Putting.{puts-none, puts-length, puts-then, puts-front}
 
@@ -102,7 +104,11 @@ rest e p texts (page _ r q d d' ts z f h more) =
 
 pub pages-are-lines : PagesAreLines
 unfolding linesOf
-pages-are-lines l e o p texts z t =
-    let r = rest (entryIn l) p texts t in
-    let n : r .0 ≡ count (entryIn l) = omega (arith, r .1) in
-    rw (o .width, o .count, o .bits) (ap (λ x. numbersLine (entryIn l .width) (count (entryIn l)) (edgeCount (entryIn l)) ++ x) (r .2 ∙ ap₂ (linesFrom (entryIn l)) z n))
+pages-are-lines e p texts z t =
+    let r = rest e p texts t in
+    let n : r .0 ≡ count e = omega (arith, r .1) in
+    ap (λ x. firstLine e ++ x) (r .2 ∙ ap₂ (linesFrom e) z n)
+
+-- the first line of an opened encoding
+pub first-line : (l : Bytes) (e : Encoding) → Opens l e → numbersLine (e .width) (e .count) (e .bits) ≡ firstLine (entryIn l)
+first-line l e o = rw (o .width, o .count, o .bits)

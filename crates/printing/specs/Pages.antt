@@ -6,13 +6,10 @@ use mathlib.Core.List.{List, [], _∷_, _++_}
 use lib.ListN.{length, take}
 use Rattle.loes.specs.Bytes.{Bytes, join}
 use Rattle.loes.specs.Entry.{Entry, count}
-use Rattle.loes.specs.Read.{entryIn}
 use Rattle.loes.specs.Cursor.{isCursorOf, nextIndex}
-use Rattle.encoding.specs.declared.Encoding.{Encoding}
-use Rattle.encoding.specs.Opened.{Opens}
 use Rattle.cursor.specs.Steps.{cursorOf}
 use Rattle.printing.specs.declared.Page.{Page}
-use Rattle.printing.specs.Text.{numbersLine, memberLine, keyBytesAt, linesFrom, linesOf, maxLine, Puts}
+use Rattle.printing.specs.Text.{memberLine, keyBytesAt, firstLine, linesFrom, linesOf, maxLine, Puts}
 
 -- its cursor is right, and goes to the member of its index next; n: there is none
 pub record Stands (e : Entry) (p : Page) : Type 0 where
@@ -43,7 +40,6 @@ pub data Printed (e : Entry) : Page → List Bytes → Type 0 where
   page : (p r q : Page) (d d' : Bytes) (texts : List Bytes) → p .length ≡ 0 → Fills e p d r d' → q .index .0 ≡ r .index .0 → Printed e q texts
       → Printed e p (take (r .length) d' ∷ texts)
 
--- from the first member on, behind the line of an opened encoding's numbers, they are all the lines of its entry
+-- behind the first line they are all the lines of the entry
 abbrev pub PagesAreLines : Type 0
-PagesAreLines = (l : Bytes) (e : Encoding) → Opens l e → (p : Page) (texts : List Bytes) → p .index .0 ≡ 0 → Printed (entryIn l) p texts
-    → numbersLine (e .width) (e .count) (e .bits) ++ join texts ≡ linesOf (entryIn l)
+PagesAreLines = (e : Entry) (p : Page) (texts : List Bytes) → p .index .0 ≡ 0 → Printed e p texts → firstLine e ++ join texts ≡ linesOf e

@@ -82,8 +82,11 @@ linesFrom e i zero = []
 linesFrom e i (suc n) = linesFrom e i n ++ memberLine (i + n) (keyBytesAt e (i + n))
 
 -- the first line, then one for each member, by index
+abbrev pub firstLine : Entry → Bytes
+firstLine e = numbersLine (e .width) (count e) (edgeCount e)
+
 unfoldable pub linesOf : Entry → Bytes
-linesOf e = numbersLine (e .width) (count e) (edgeCount e) ++ linesFrom e 0 (count e)
+linesOf e = firstLine e ++ linesFrom e 0 (count e)
 
 -- ---- Text put into a buffer at a place: what is before it and behind it keeps its value
 unfoldable pub withText : ℕ → Bytes → Bytes → Bytes

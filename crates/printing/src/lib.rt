@@ -4,12 +4,12 @@ ghost use mathlib.Core.Path.{_≡_};
 ghost use mathlib.Core.List.{[], _∷_};
 ghost use lib.ListN.{length};
 ghost use Rattle.loes.specs.Entry.{count};
-ghost use Rattle.loes.specs.Read.{entryIn};
+ghost use Rattle.loes.specs.Read.{rejected, read, entryIn};
 ghost use Rattle.loes.specs.Cursor as spec;
 ghost use Rattle.bits.specs.Tables.{Tallies};
 ghost use Rattle.encoding.specs.Opened.{Opens};
 ghost use Rattle.cursor.specs.Steps.{cursorOf, steppedOf};
-ghost use Rattle.printing.specs.Text.{decimal, named, hexDigit, hex, numbersLine, memberLine, refusedLine, linesFrom, maxLine, Puts};
+ghost use Rattle.printing.specs.Text.{decimal, named, hexDigit, hex, numbersLine, memberLine, refusedLine, firstLine, linesFrom, maxLine, Puts};
 ghost use Rattle.printing.specs.Pages.{Stands, PutsNext, Fills, Full};
 use bits::MemberIndex;
 use cursor::Cursor;
@@ -170,7 +170,7 @@ fn put_next(l: &[u8], t: &[u8], e: Encoding, p: Page, text: &mut [u8]) -> Page
     }
 }
 
-// As many more lines as there are members and room for.
+// More lines, while members are left and there is room for any line.
 fn fill(l: &[u8], t: &[u8], e: Encoding, from: Page, text: &mut [u8]) -> Page
     requires { ⌜ Opens (now l) e × Tallies (now t) × Stands (entryIn (now l)) from × (from .length ≤ length (now text)) ⌝ }
     ensures { λ r. ⌜ Fills (entryIn (now (l .entry))) from (now (text .entry)) r (now (text .exit)) × Full (entryIn (now (l .entry))) r (now (text .exit)) ⌝ }
@@ -185,30 +185,32 @@ fn fill(l: &[u8], t: &[u8], e: Encoding, from: Page, text: &mut [u8]) -> Page
     p
 }
 
-// ---- Writing: each is lent its text and nothing else; no contract speaks of what leaves the process
-fn write_numbers(e: Encoding, text: &[u8])
-    requires { ⌜ now text ≡ numbersLine (e .width) (e .count) (e .bits) ⌝ }
+// ---- Writing: each is lent its text of the input and nothing else; no contract speaks of what leaves the process
+fn write_numbers(l: &[u8], text: &[u8])
+    requires { ⌜ now text ≡ firstLine (entryIn (now l)) ⌝ }
 {
     io::write_all(STDOUT_FILENO, text);
 }
 
 // The lines of the members from one index up to another.
 fn write_members(l: &[u8], from: MemberIndex, to: MemberIndex, text: &[u8])
-    requires { ⌜ now text ≡ linesFrom (entryIn (now l)) (from .0) (to .0 - from .0) ⌝ }
+    requires { ⌜ (from .0 < to .0) × (to .0 ≤ count (entryIn (now l))) × (now text ≡ linesFrom (entryIn (now l)) (from .0) (to .0 - from .0)) ⌝ }
 {
     io::write_all(STDOUT_FILENO, text);
 }
 
-fn write_refused(k: u8, text: &[u8])
-    requires { ⌜ now text ≡ refusedLine k ⌝ }
+fn write_refused(l: &[u8], k: u8, text: &[u8])
+    requires { ⌜ (read (now l) ≡ rejected k) × (now text ≡ refusedLine k) ⌝ }
 {
     io::write_all(STDOUT_FILENO, text);
 }
 
-fn print_numbers(e: Encoding) {
+fn print_numbers(l: &[u8], e: Encoding)
+    requires { ⌜ Opens (now l) e ⌝ }
+{
     let mut text = [0u8; LINE];
     let n = put_numbers(&mut text, 0, e);
-    write_numbers(e, &text[..n]);
+    write_numbers(l, &text[..n]);
 }
 
 // Prints a page of lines, and returns one that goes on from it.
@@ -241,19 +243,21 @@ fn print_members(l: &[u8], t: &[u8], e: Encoding) -> MemberIndex
     p.index
 }
 
-fn print_refused(k: u8) {
+fn print_refused(l: &[u8], k: u8)
+    requires { ⌜ read (now l) ≡ rejected k ⌝ }
+{
     let mut text = [0u8; LINE];
     let n = put_refused(&mut text, 0, k);
-    write_refused(k, &text[..n]);
+    write_refused(l, k, &text[..n]);
 }
 
 // Prints the encoding that bytes are, or their refusal.
 fn print(l: &[u8]) {
     let t = bits::tallies();
     match encoding::check(l, &t) {
-        Checked::Refused(k) => print_refused(k),
+        Checked::Refused(k) => print_refused(l, k),
         Checked::Opened(e) => {
-            print_numbers(e);
+            print_numbers(l, e);
             print_members(l, &t, e);
         }
     }

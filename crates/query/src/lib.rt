@@ -551,7 +551,7 @@ pub fn key_at_in(
     Written::Bytes(n)
 }
 
-// ---- Public calls: the check, then the question
+// ---- Calls: the check, then the question
 // Whether a key is a member (document 01: present or not).
 pub fn contains(l: &[u8], key: &[u8]) -> Membership
     ensures { λ r. ⌜ membershipOutcome r ≡ containsCall (now (l .entry)) (now (key .entry)) ⌝ }

@@ -1,6 +1,6 @@
 use mathlib.Core.Path.{subst}
-use borrow.Author.Needs.{needs}
 use Rattle.encoding.specs.Fields.{Checks}
+use borrow.Author.Needs.{needs}
 use Rattle.printing.proofs.print.Statement.{statement}
 use Rattle.printing.proofs.print.Tie as tie
 
@@ -17,13 +17,13 @@ enum-known-k : tie.Need-enum-known-k
 enum-known-k c = search needs
 
 print-refused-requires : tie.Need-print-refused-requires
-print-refused-requires c κs = search needs
+print-refused-requires c κs = subst (Checks _) (c .before .k .given .1) (c .before .before .before .check .ensures)
 
 enum-known-e : tie.Need-enum-known-e
 enum-known-e c = search needs
 
 print-numbers-requires : tie.Need-print-numbers-requires
-print-numbers-requires c κs = search needs
+print-numbers-requires c κs = subst (Checks _) (c .before .e .given .1) (c .before .before .before .check .ensures)
 
 slice-aggregate-print-members : tie.Need-slice-aggregate-print-members
 slice-aggregate-print-members c = search needs

@@ -27,7 +27,11 @@ slice-aggregate-write-members : tie.Need-slice-aggregate-write-members
 slice-aggregate-write-members c = sym (length-take-le _ _ (puts-within (c .before .before .fill .ensures .0 .puts)))
 
 write-members-requires : tie.Need-write-members-requires
-write-members-requires c κs = fills-front _ _ _ _ _ (c .before .before .fill .ensures .0) (c .before .before .before .before .before .before .before .pre .3)
+write-members-requires c κs =
+    let s = c .before .before .before .before .before .before .before in
+    let f = c .before .before .fill .ensures in
+    let lt : s .args .from .index .0 < count (entryIn (now (s .args .l))) = omega (arith, s .pre .0 .count, s .pre .4) in
+    (fills-some _ _ _ _ _ (f .0) (f .1) lt (omega arith), f .0 .stands .within, fills-front _ _ _ _ _ (f .0) (s .pre .3))
 
 returns : tie.Need-returns
 returns c =

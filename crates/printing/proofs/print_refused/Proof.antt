@@ -11,7 +11,7 @@ slice-aggregate-put-refused : tie.Need-slice-aggregate-put-refused
 slice-aggregate-put-refused c = search needs
 
 put-refused-requires : tie.Need-put-refused-requires
-put-refused-requires c κs = let k = c .before .args .k in omega (arith, refused-most k (omega arith))
+put-refused-requires c κs = let k = c .before .before .args .k in omega (arith, refused-most k (omega arith))
 
 array-share-prefix-text : tie.Need-array-share-prefix-text
 array-share-prefix-text c = search needs
@@ -20,7 +20,7 @@ slice-aggregate-write-refused : tie.Need-slice-aggregate-write-refused
 slice-aggregate-write-refused c = sym (length-take-le _ _ (puts-within (c .before .before .put-refused .ensures)))
 
 write-refused-requires : tie.Need-write-refused-requires
-write-refused-requires c κs = puts-front (c .before .before .put-refused .ensures)
+write-refused-requires c κs = (c .before .before .before .before .before .pre, puts-front (c .before .before .put-refused .ensures))
 
 returns : tie.Need-returns
 returns c = search needs
