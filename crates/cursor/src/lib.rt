@@ -430,7 +430,7 @@ pub fn advanced(l: &[u8], t: &[u8], e: Encoding, c: Cursor, out: &mut [u8]) -> S
     }
 }
 
-// Moves a lent cursor on to the next member and writes its key to the front of a buffer (document 01: the step).
+// The same of a cursor that is lent to the step, for a caller who opened once (document 01: the place is lent to the step).
 pub fn advance(l: &[u8], t: &[u8], e: Encoding, cursor: &mut Cursor, out: &mut [u8]) -> Step
     requires { ⌜ Opens (now l) e × Tallies (now t) ⌝ }
     ensures { λ r. ⌜ advancedOf r (now (out .exit)) (now (cursor .exit)) ≡ spec.advance (entryIn (now (l .entry))) (cursorOf (now (cursor .entry))) (now (out .entry)) ⌝ }

@@ -24,7 +24,7 @@ array-share-prefix-text : tie.Need-array-share-prefix-text
 array-share-prefix-text c = search needs
 
 slice-aggregate-write-members : tie.Need-slice-aggregate-write-members
-slice-aggregate-write-members c = sym (length-take-le _ _ (puts-within (c .before .before .fill .ensures .0 .puts)))
+slice-aggregate-write-members c = sym (length-take-le _ _ (omega (arith, puts-within (c .before .before .fill .ensures .0 .puts), c .before .before .before .before .before .before .before .pre .3)))
 
 write-members-requires : tie.Need-write-members-requires
 write-members-requires c κs =
