@@ -358,16 +358,14 @@ fn mark_next(
     ensures { λ r. ⌜ (0 < r) × (i + r ≤ n) × (now (edges .exit) ≡ setBits (rowOffset t (now (batch .entry)) e (first .0)) i r (now (edges .entry))) ⌝ }
 {
     let record = first.0 + i;
-    if record % 4 != 0 {
-        mark_one(batch, t, e, first, i, edges, masks);
-        return 1;
+    if record % 4 == 0 {
+        if 4 <= n - i {
+            mark_four(batch, t, e, first, i, edges, masks);
+            return 4;
+        }
     }
-    if n - i < 4 {
-        mark_one(batch, t, e, first, i, edges, masks);
-        return 1;
-    }
-    mark_four(batch, t, e, first, i, edges, masks);
-    4
+    mark_one(batch, t, e, first, i, edges, masks);
+    1
 }
 
 // The same of all keys.
