@@ -185,7 +185,7 @@ fn full_ones(bytes: &[u8]) -> Option<usize> {
 }
 
 /// The same of the first 64 bytes, or of all if they are fewer.
-fn sub_block_ones(bytes: &[u8]) -> Option<usize> {
+fn scan_sub_block(bytes: &[u8]) -> Option<usize> {
     match bytes.first_chunk::<64>() {
         Some(all) => full_ones(all),
         None => full_ones(bytes),
@@ -206,7 +206,7 @@ fn whole_ones(e: &Opened, f: &Fields) -> Option<usize> {
         if base + number2(entry) != ones {
             return None;
         }
-        ones += sub_block_ones(&bytes[64 * j..])?;
+        ones += scan_sub_block(&bytes[64 * j..])?;
     }
     Some(ones)
 }
@@ -538,7 +538,7 @@ fn length(width: usize, bits: usize, room: usize) -> Result<usize, u64> {
 }
 
 /// Where the edges stand: behind the head of field 4.
-fn edges_at(width: usize) -> usize {
+fn edges_start(width: usize) -> usize {
     18 + 4 * width
 }
 
@@ -577,7 +577,7 @@ fn write_around(width: usize, count: usize, ends: &[usize], out: &mut [u8]) {
 fn write(width: usize, count: usize, ends: &[usize], edges: &[u8], out: &mut [u8]) -> Result<usize, u64> {
     let bits = ends[width - 1];
     let length = length(width, bits, out.len())?;
-    let (at, bytes) = (edges_at(width), bits.div_ceil(8));
+    let (at, bytes) = (edges_start(width), bits.div_ceil(8));
     out[at..at + bytes].copy_from_slice(&edges[..bytes]);
     write_around(width, count, ends, out);
     Ok(length)
@@ -699,7 +699,7 @@ pub fn pack(width: u64, batch: &[u8], out: &mut [u8]) -> Result<usize, u64> {
         }
     }
     let length = length(m, bits, out.len())?;
-    let at = edges_at(m);
+    let at = edges_start(m);
     let edges = &mut out[at..at + bits.div_ceil(8)];
     edges.fill(0);
     // from this level on each key has a record of its own
@@ -909,7 +909,7 @@ fn merge(a: &[u8], ra: usize, b: &[u8], rb: usize, ends: &mut [usize]) -> Merged
 }
 
 /// How many edges a byte has.
-fn edges_in(x: usize) -> usize {
+fn count_edges(x: usize) -> usize {
     let f = PARTS[x & 0xFF] as usize;
     (f + (f >> 12)) & 15
 }
@@ -923,14 +923,14 @@ fn mark_half<const TEST: usize>(x: usize, v: usize) -> usize {
 fn mark_bytes<const TEST: usize>(queue: &mut [u8], mut i: usize, mut child: usize, from: usize) -> (usize, usize) {
     while i > 0 {
         let y = usize::from(queue[i / 4 - 1]);
-        let edges = edges_in(y);
+        let edges = count_edges(y);
         if child < edges + i.max(from) {
             break;
         }
         child -= edges;
         let entries = eight(queue, child);
         let high = mark_half::<TEST>(y / 16, four(entries, 0));
-        let low = mark_half::<TEST>(y, four(entries, edges_in(y / 16)));
+        let low = mark_half::<TEST>(y, four(entries, count_edges(y / 16)));
         queue[i / 4 - 1] = (high << 4 | low) as u8;
         i -= 4;
     }

@@ -18,7 +18,7 @@ use crate::{answers, ffi, Cursor, EdgeOffset, MemberIndex, Refusal};
 /// ```
 #[derive(Clone, Copy)]
 pub struct Encoding<'a> {
-    checked: ffi::Checked<'a>,
+    checked: ffi::OpenedBytes<'a>,
 }
 
 impl<'a> Encoding<'a> {

@@ -5,7 +5,7 @@
 //!
 //! - a slice's pointer is never null and its length is right; output slices and cursors are borrowed mutably, so they share no
 //!   byte with anything else that is lent;
-//! - the functions behind the check require the numbers that `loes_open` told of the same bytes: a `Checked` is made by `open` only
+//! - the functions behind the check require the numbers that `loes_open` told of the same bytes: an `OpenedBytes` is made by `open` only
 //!   and borrows those bytes, so they cannot change while it lives;
 //! - the steps that do not test their cursor require a right one: a `Walk` starts before the first member, and only its own
 //!   steps change its cursor, none of which is refused 15.
@@ -55,7 +55,7 @@ pub struct Cursor {
 /// A step over lent offsets: its answer, and the state that it leaves.
 #[repr(C)]
 #[derive(Clone, Copy)]
-struct Step {
+struct StateAnswer {
     answer: Answer,
     state: u64,
 }
@@ -78,15 +78,15 @@ extern "C" {
     fn loes_unchecked_lower_bound(width: u64, count: u64, bits: u64, l: *const u8, n: usize, key: *const u8, k: usize) -> Answer;
     fn loes_unchecked_key_at(width: u64, count: u64, bits: u64, l: *const u8, n: usize, index: MemberIndex, out: *mut u8, m: usize) -> Answer;
     fn loes_unchecked_rank(width: u64, count: u64, bits: u64, l: *const u8, n: usize, offset: EdgeOffset) -> Answer;
-    fn loes_unchecked_advance(width: u64, count: u64, bits: u64, l: *const u8, n: usize, state: u64, offsets: *mut EdgeOffset, offset_count: usize, out: *mut u8, m: usize) -> Step;
+    fn loes_unchecked_advance(width: u64, count: u64, bits: u64, l: *const u8, n: usize, state: u64, offsets: *mut EdgeOffset, offset_count: usize, out: *mut u8, m: usize) -> StateAnswer;
     // and with a right cursor
-    fn loes_unchecked_next(width: u64, count: u64, bits: u64, l: *const u8, n: usize, state: u64, offsets: *mut EdgeOffset, offset_count: usize, out: *mut u8, m: usize) -> Step;
-    fn loes_unchecked_walk(width: u64, count: u64, bits: u64, l: *const u8, n: usize, state: u64, offsets: *mut EdgeOffset, offset_count: usize, out: *mut u8, m: usize) -> Step;
+    fn loes_unchecked_next(width: u64, count: u64, bits: u64, l: *const u8, n: usize, state: u64, offsets: *mut EdgeOffset, offset_count: usize, out: *mut u8, m: usize) -> StateAnswer;
+    fn loes_unchecked_walk(width: u64, count: u64, bits: u64, l: *const u8, n: usize, state: u64, offsets: *mut EdgeOffset, offset_count: usize, out: *mut u8, m: usize) -> StateAnswer;
 }
 
 /// Bytes that have been opened, and their numbers.
 #[derive(Clone, Copy)]
-pub struct Checked<'a> {
+pub struct OpenedBytes<'a> {
     bytes: &'a [u8],
     width: u64,
     count: u64,
@@ -98,9 +98,9 @@ pub fn opened(bytes: &[u8]) -> Opened {
 }
 
 /// The checked bytes, or the refusal's number.
-pub fn open(bytes: &[u8]) -> Result<Checked<'_>, u32> {
+pub fn open(bytes: &[u8]) -> Result<OpenedBytes<'_>, u32> {
     match opened(bytes) {
-        Opened { refusal: 0, width, count, bits } => Ok(Checked { bytes, width: u64::from(width), count, bits }),
+        Opened { refusal: 0, width, count, bits } => Ok(OpenedBytes { bytes, width: u64::from(width), count, bits }),
         Opened { refusal, .. } => Err(refusal),
     }
 }
@@ -142,9 +142,9 @@ pub fn advance(l: &[u8], cursor: &mut Cursor, out: &mut [u8]) -> Answer {
 }
 
 /// A step behind the check, over lent offsets.
-type StepBehind = unsafe extern "C" fn(u64, u64, u64, *const u8, usize, u64, *mut EdgeOffset, usize, *mut u8, usize) -> Step;
+type StepBehind = unsafe extern "C" fn(u64, u64, u64, *const u8, usize, u64, *mut EdgeOffset, usize, *mut u8, usize) -> StateAnswer;
 
-impl<'a> Checked<'a> {
+impl<'a> OpenedBytes<'a> {
     pub fn bytes(&self) -> &'a [u8] {
         self.bytes
     }
@@ -155,27 +155,27 @@ impl<'a> Checked<'a> {
     }
 
     pub fn contains(&self, key: &[u8]) -> Answer {
-        let Checked { bytes, width, count, bits } = *self;
+        let OpenedBytes { bytes, width, count, bits } = *self;
         unsafe { loes_unchecked_contains(width, count, bits, bytes.as_ptr(), bytes.len(), key.as_ptr(), key.len()) }
     }
 
     pub fn index_of(&self, key: &[u8]) -> Answer {
-        let Checked { bytes, width, count, bits } = *self;
+        let OpenedBytes { bytes, width, count, bits } = *self;
         unsafe { loes_unchecked_index_of(width, count, bits, bytes.as_ptr(), bytes.len(), key.as_ptr(), key.len()) }
     }
 
     pub fn lower_bound(&self, key: &[u8]) -> Answer {
-        let Checked { bytes, width, count, bits } = *self;
+        let OpenedBytes { bytes, width, count, bits } = *self;
         unsafe { loes_unchecked_lower_bound(width, count, bits, bytes.as_ptr(), bytes.len(), key.as_ptr(), key.len()) }
     }
 
     pub fn key_at(&self, index: MemberIndex, out: &mut [u8]) -> Answer {
-        let Checked { bytes, width, count, bits } = *self;
+        let OpenedBytes { bytes, width, count, bits } = *self;
         unsafe { loes_unchecked_key_at(width, count, bits, bytes.as_ptr(), bytes.len(), index, out.as_mut_ptr(), out.len()) }
     }
 
     pub fn rank(&self, offset: EdgeOffset) -> Answer {
-        let Checked { bytes, width, count, bits } = *self;
+        let OpenedBytes { bytes, width, count, bits } = *self;
         unsafe { loes_unchecked_rank(width, count, bits, bytes.as_ptr(), bytes.len(), offset) }
     }
 
@@ -193,7 +193,7 @@ impl<'a> Checked<'a> {
     /// The cursor is one that the step takes.
     #[rustfmt::skip]
     unsafe fn step(&self, by: StepBehind, cursor: &mut Cursor, out: &mut [u8]) -> Answer {
-        let Checked { bytes, width, count, bits } = *self;
+        let OpenedBytes { bytes, width, count, bits } = *self;
         let step = by(
             width, count, bits, bytes.as_ptr(), bytes.len(), cursor.state, cursor.offsets.as_mut_ptr(), OFFSETS, out.as_mut_ptr(), out.len(),
         );
@@ -205,7 +205,7 @@ impl<'a> Checked<'a> {
 /// A walk over checked bytes from before the first member, with a cursor of its own.
 #[derive(Clone)]
 pub struct Walk<'a> {
-    checked: Checked<'a>,
+    checked: OpenedBytes<'a>,
     cursor: Cursor,
 }
 

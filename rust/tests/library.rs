@@ -45,7 +45,7 @@ fn index(result: Result<Option<MemberIndex>, Refusal>) -> Answer {
 
 /// Encodings are built, opened and asked through the Rust interface; cursors in numbers, so that any can be given.
 impl Subject for Library {
-    type Opened<'a> = (ffi::Checked<'a>, Encoding<'a>);
+    type Opened<'a> = (ffi::OpenedBytes<'a>, Encoding<'a>);
     type Walk<'a> = ffi::Walk<'a>;
 
     fn pack(width: u64, batch: &[u8], out: &mut [u8]) -> Answer {

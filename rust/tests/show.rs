@@ -41,9 +41,9 @@ fn shown_by_rule(input: &[u8]) -> String {
         Err(number) => format!("refused {number}\n"),
         Ok(laid) => {
             let mut text = format!("width {} tickets {} edges {}\n", laid.width(), laid.count(), laid.bits());
-            for (lot, key) in laid.set.keys.iter().enumerate() {
+            for (index, key) in laid.set.keys.iter().enumerate() {
                 let digits: String = key.iter().map(|byte| format!("{byte:02X}")).collect();
-                writeln!(text, "{lot} {digits}").unwrap();
+                writeln!(text, "{index} {digits}").unwrap();
             }
             text
         }
@@ -84,7 +84,7 @@ fn takes_no_more_than_it_may() {
     }
 }
 
-/// The longest encodings that may be printed, by bytes of tickets and by tickets.
+/// The longest encodings that may be printed: by the bytes of their keys, and by their keys.
 #[test]
 fn prints_large_sets_at_once() {
     rounds("prints_large_sets_at_once", 1, |rng| {

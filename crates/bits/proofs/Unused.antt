@@ -8,10 +8,10 @@ use lib.ListN.{getD}
 use lib.Pow.{pow-pos, shl-exact, shr-shr, mod-pow-add}
 use lib.Dec.{eqb, eqb·suc-zero}
 use Rattle.loes.specs.Bytes.{Bytes, tabulate, started, odd, bitAt, bitsIn}
-use Rattle.loes.specs.Keys.{any}
+use Rattle.loes.specs.Keys.{anyOf}
 use Rattle.loes.specs.Entry.{keyBytes}
 use Rattle.loes.specs.Model.{unusedSet}
-use Rattle.loes.proofs.Lists.{any-append}
+use Rattle.loes.proofs.Lists.{anyOf-append}
 use Rattle.loes.proofs.Bits.{tabulate-ext, drop-tabulate}
 
 either-bit : (a b : ℕ) → b < 2 → (not (eqb a 0) || eqb b 1) ≡ not (eqb (a * 2 + b) 0)
@@ -21,8 +21,8 @@ either-bit (suc a) b h = let z : suc a * 2 + b ≡ suc (a * 2 + b + 1) = omega a
 either-bit zero (suc (suc b)) h = absurd (omega arith)
 
 -- one of the k low bits of v is set
-low-bits : (k v : ℕ) → any (λ (b : Bool). b) (tabulate (λ (j : ℕ). odd (v / 2 ^ (k - 1 - j))) k) ≡ not (eqb (v % 2 ^ k) 0)
-unfolding tabulate any odd
+low-bits : (k v : ℕ) → anyOf (λ (b : Bool). b) (tabulate (λ (j : ℕ). odd (v / 2 ^ (k - 1 - j))) k) ≡ not (eqb (v % 2 ^ k) 0)
+unfolding tabulate anyOf odd
 low-bits zero v = let z : v % 2 ^ 0 ≡ 0 = omega arith in rw z
 low-bits (suc k) v =
     let last : v / 2 ^ (suc k - 1 - k) ≡ v = let z : suc k - 1 - k ≡ 0 = omega arith in rw z (omega arith) in
@@ -31,8 +31,8 @@ low-bits (suc k) v =
     let s : k + 1 ≡ suc k = omega arith in
     let m : v % 2 ^ suc k ≡ v / 2 % 2 ^ k * 2 + v % 2 = rw s at (mod-pow-add v k 1) in
     rw m
-    (any-append (λ (b : Bool). b) (tabulate (λ (j : ℕ). odd (v / 2 ^ (suc k - 1 - j))) k) (odd (v / 2 ^ (suc k - 1 - k)) ∷ [])
-    ∙ ap₂ _||_ (ap (any (λ (b : Bool). b)) (tabulate-ext _ _ k more) ∙ low-bits k (v / 2)) (or-false _ ∙ ap odd last)
+    (anyOf-append (λ (b : Bool). b) (tabulate (λ (j : ℕ). odd (v / 2 ^ (suc k - 1 - j))) k) (odd (v / 2 ^ (suc k - 1 - k)) ∷ [])
+    ∙ ap₂ _||_ (ap (anyOf (λ (b : Bool). b)) (tabulate-ext _ _ k more) ∙ low-bits k (v / 2)) (or-false _ ∙ ap odd last)
     ∙ either-bit (v / 2 % 2 ^ k) (v % 2) (omega arith))
 
 -- a power of 2 in a byte

@@ -2,8 +2,8 @@
 ghost use Prim.Native.Nat.{_+_, _-_, _*_, _/_, _^_, _<_, _≤_};
 ghost use mathlib.Core.Path.{_≡_};
 ghost use lib.ListN.{length, drop};
-ghost use Rattle.loes.specs.Limits.{maxWidth};
-ghost use Rattle.loes.specs.Bytes.{bitAt, bitsIn, numberAt};
+ghost use Rattle.loes.specs.Limits.{maxWidth, maxEdges, subBlockBits};
+ghost use Rattle.loes.specs.Bytes.{started, bitAt, bitsIn, numberAt};
 ghost use Rattle.loes.specs.Edges.{ones};
 ghost use Rattle.loes.specs.Entry.{keyBytes};
 ghost use Rattle.loes.specs.Model.{unusedSet};
@@ -21,6 +21,22 @@ pub struct RecordIndex(pub usize);
 // A key's index among the members in order (document 01: lot).
 #[repr(C)]
 pub struct MemberIndex(pub usize);
+
+// How many parts of a size are started by n: n / size, rounded up.
+pub fn started_by(n: usize, size: usize) -> usize
+    requires { ⌜ (n ≤ maxEdges) × (0 < size) × (size ≤ maxEdges) ⌝ }
+    ensures { λ r. ⌜ (r ≡ started size n) × (r < n + size) ⌝ }
+{
+    (n + (size - 1)) / size
+}
+
+// The bytes that n bits take.
+pub fn bytes_for(n: usize) -> usize
+    requires { ⌜ n ≤ maxEdges ⌝ }
+    ensures { λ r. ⌜ (r ≡ started 8 n) × (8 * r < n + 8) ⌝ }
+{
+    started_by(n, 8)
+}
 
 // Bit o of bytes, offset 0 in the most significant bit of the first byte.
 pub fn bit_at(l: &[u8], o: usize) -> bool
@@ -41,10 +57,10 @@ pub fn unused_set(key: &[u8], t: usize, m: usize) -> bool
     x % (1u8 << (8 * t - m)) != 0
 }
 
-// What the byte before a byte and the two before two weigh.
-const BYTE: usize = 256;
+// What a byte weighs that has one behind it, and one that has two.
+pub const BYTE: usize = 256;
 
-const TWO_BYTES: usize = BYTE * BYTE;
+pub const TWO_BYTES: usize = BYTE * BYTE;
 
 // The number in two bytes at a place, most significant byte first.
 pub fn number2(l: &[u8], at: usize) -> usize
@@ -109,10 +125,10 @@ pub fn word_ones(l: &[u8], at: usize) -> usize
     u64::count_ones(word(l, at)) as usize
 }
 
-// The set bits of bytes from..upto, at most 64 of them, by the table.
+// The set bits of bytes from..upto, at most a sub-block of them, by the table.
 pub fn tally_bytes(l: &[u8], t: &[u8], from: usize, upto: usize) -> usize
-    requires { ⌜ (from ≤ upto) × (upto ≤ length (now l)) × (upto ≤ from + 64) × Tallies (now t) ⌝ }
-    ensures { λ r. ⌜ (r ≡ ones (bitsIn (drop from (now (l .entry))) (8 * (upto - from)))) × (r ≤ 8 * 64) ⌝ }
+    requires { ⌜ (from ≤ upto) × (upto ≤ length (now l)) × (upto ≤ from + subBlockBits / 8) × Tallies (now t) ⌝ }
+    ensures { λ r. ⌜ (r ≡ ones (bitsIn (drop from (now (l .entry))) (8 * (upto - from)))) × (r ≤ subBlockBits) ⌝ }
 {
     let mut sum: usize = 0;
     let mut i = from;

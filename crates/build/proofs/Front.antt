@@ -8,6 +8,7 @@ use lib.Seq.{take-all, take-at, drop-at, take-take, drop-drop, take-append-le, d
 use native.Mathlib.Numerals.{add-one}
 use native.Mathlib.Nat.{mul-comm}
 use borrow.Rule.Slice.PartMut.{putMid}
+use Rattle.loes.specs.Limits.{headBytes}
 use Rattle.loes.specs.Bytes.{Bytes, bigEndian, bigEndians, front}
 use Rattle.loes.specs.Encode.{field}
 use Rattle.loes.proofs.Bytes.{length-bigEndian, length-bigEndians, field-length}
@@ -143,5 +144,5 @@ numbers-field p t w f n len xs zs ys e g h =
     ∙ ap (λ x. front x xs) (append-assoc p (t ∷ bigEndian 2 len) (bigEndians w f n) ∙ ap (λ x. p ++ x) (field-is t (bigEndians w f n) len (length-bigEndians w f n ∙ e)))
 
 -- a field in front leaves the buffer's length
-pub field-long : (t : ℕ) (x xs ys : Bytes) → ys ≡ front (field t x) xs → 3 + length x ≤ length xs → length ys ≡ length xs
+pub field-long : (t : ℕ) (x xs ys : Bytes) → ys ≡ front (field t x) xs → headBytes + length x ≤ length xs → length ys ≡ length xs
 field-long t x xs ys e h = ap length e ∙ length-front (field t x) xs (omega (arith, field-length t x))

@@ -10,12 +10,13 @@ use lib.Dec.{ltb}
 use Rattle.loes.specs.Limits.{blockBits, subBlockBits}
 use Rattle.loes.specs.Bytes.{Bytes, bitsIn}
 use Rattle.loes.specs.Edges.{ones, onesBefore}
+use Rattle.loes.specs.Prefixes.{prefixCount, roots, ends}
 use Rattle.loes.specs.Entry.{keysOf, count, edgesOf, edgeCount}
 use Rattle.loes.specs.Encode.{blockOnes, levelEnd}
-use Rattle.loes.specs.Read.{followed}
-use Rattle.loes.specs.Held.{held, Holds}
-use Rattle.loes.proofs.Tree.{prefixCount, bit-le}
-use Rattle.loes.proofs.Ends.{roots, ends, ends-set, roots-set, count-set}
+use Rattle.loes.specs.Read.{entryAlong}
+use Rattle.loes.specs.Held.{entryHeld, Holds}
+use Rattle.loes.proofs.Tree.{bit-le}
+use Rattle.loes.proofs.Ends.{ends-set, roots-set, count-set}
 use Rattle.loes.proofs.Reading.{levelEnd-last}
 use Rattle.loes.proofs.Seven.{level-le}
 use Rattle.loes.proofs.Bits.{length-bitsIn}
@@ -33,28 +34,28 @@ unfolding roots
 roots-le b = bit-le (ltb 0 b)
 
 module _ (m b : ℕ) (l : Bytes) (h : Holds m b l) where
-  pub held-bits : edgeCount (held m b l) ≡ b
+  pub held-bits : edgeCount (entryHeld m b l) ≡ b
   unfolding edgeCount
   held-bits = ap length (h .same) ∙ length-bitsIn l b
 
-  held-roots : prefixCount 0 m (held m b l .set) ≡ roots b
-  unfolding edgeCount edgesOf held followed
-  held-roots = roots-set m (held m b l .set) (h .positive) ∙ ap roots held-bits
+  held-roots : prefixCount 0 m (entryHeld m b l .set) ≡ roots b
+  unfolding edgeCount edgesOf entryHeld entryAlong
+  held-roots = roots-set m (entryHeld m b l .set) (h .positive) ∙ ap roots held-bits
 
-  pub held-ends : (d : ℕ) → d < m → levelEnd (held m b l) d ≡ ends (roots b) (bitsIn l b) (suc d)
-  unfolding levelEnd edgesOf held followed
-  held-ends d q = ends-set (suc d) m (held m b l .set) q ∙ ap₂ (λ c e. ends c e (suc d)) held-roots (h .same)
+  pub held-ends : (d : ℕ) → d < m → levelEnd (entryHeld m b l) d ≡ ends (roots b) (bitsIn l b) (suc d)
+  unfolding levelEnd edgesOf entryHeld entryAlong
+  held-ends d q = ends-set (suc d) m (entryHeld m b l .set) q ∙ ap₂ (λ c e. ends c e (suc d)) held-roots (h .same)
 
   -- no level ends behind the last
   pub ends-le : (d : ℕ) → d < m → ends (roots b) (bitsIn l b) (suc d) ≤ b
-  unfolding held followed
-  ends-le d q = omega (arith, held-ends d q, level-le (held m b l) d q, held-bits)
+  unfolding entryHeld entryAlong
+  ends-le d q = omega (arith, held-ends d q, level-le (entryHeld m b l) d q, held-bits)
 
   pub ends-last : ends (roots b) (bitsIn l b) m ≡ b
-  unfolding held followed
+  unfolding entryHeld entryAlong
   ends-last =
       let z : suc (m - 1) ≡ m = omega (arith, h .positive) in
-      ap (ends (roots b) (bitsIn l b)) (sym z) ∙ sym (held-ends (m - 1) (omega (arith, h .positive))) ∙ levelEnd-last (held m b l) (h .positive) ∙ held-bits
+      ap (ends (roots b) (bitsIn l b)) (sym z) ∙ sym (held-ends (m - 1) (omega (arith, h .positive))) ∙ levelEnd-last (entryHeld m b l) (h .positive) ∙ held-bits
 
   all-ones : (n : ℕ) → n ≡ onesBefore (bitsIn l b) (ends (roots b) (bitsIn l b) m) → n ≡ ones (bitsIn l b)
   unfolding onesBefore
@@ -71,11 +72,11 @@ module _ (m b : ℕ) (l : Bytes) (h : Holds m b l) where
           let e : ends (roots b) (bitsIn l b) (suc k) ≡ b = ap (ends (roots b) (bitsIn l b)) (sym z) ∙ ends-last in
           unfold ends in omega (arith, e, all-ones n q, before-all (bitsIn l b) (ends (roots b) (bitsIn l b) k))
 
-  pub held-count : (n : ℕ) → n ≡ onesBefore (bitsIn l b) (ends (roots b) (bitsIn l b) m) → roots b + n - b / 2 ≡ count (held m b l)
-  unfolding count keysOf edgeCount edgesOf held followed
+  pub held-count : (n : ℕ) → n ≡ onesBefore (bitsIn l b) (ends (roots b) (bitsIn l b) m) → roots b + n - b / 2 ≡ count (entryHeld m b l)
+  unfolding count keysOf edgeCount edgesOf entryHeld entryAlong
   held-count n q =
-      ap₂ (λ c k. c + k - b / 2) (sym held-roots) (all-ones n q ∙ ap ones (sym (h .same))) ∙ ap (λ k. prefixCount 0 m (held m b l .set) + ones (edgesOf (held m b l)) - k / 2) (sym held-bits)
-      ∙ sym (count-set m (held m b l .set))
+      ap₂ (λ c k. c + k - b / 2) (sym held-roots) (all-ones n q ∙ ap ones (sym (h .same))) ∙ ap (λ k. prefixCount 0 m (entryHeld m b l .set) + ones (edgesOf (entryHeld m b l)) - k / 2) (sym held-bits)
+      ∙ sym (count-set m (entryHeld m b l .set))
 
 -- ---- The index entries
 -- set bits of whole bytes before block j, and before sub-block j

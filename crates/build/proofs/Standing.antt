@@ -7,16 +7,16 @@ use lib.ListN.{length, take, drop, length-append, length-drop}
 use lib.Seq.{length-take-le, take-at, drop-at, drop-drop}
 use borrow.Rule.Slice.PartMut.{putMid}
 use Rattle.loes.specs.Bytes.{Bytes, front}
-use Rattle.loes.specs.Read.{edgeBytes, start4, start5, start6, endOf}
+use Rattle.loes.specs.Read.{edgeBytes, bodyAt, start4, start5, start6, endOf}
 use Rattle.build.specs.Writing.{standing}
 
 -- the edges end before the encoding does
-pub edges-end : (m b : ℕ) → start4 m + 3 + edgeBytes b ≤ endOf m b
+pub edges-end : (m b : ℕ) → bodyAt (start4 m) + edgeBytes b ≤ endOf m b
 unfolding endOf start6 start5
 edges-end m b = omega arith
 
 -- l takes the place of the k bytes from a place on
-module _ (m b at k : ℕ) (xs l : Bytes) (place : at ≡ start4 m + 3) (size : k ≡ edgeBytes b) (long : length l ≡ k) (room : endOf m b ≤ length xs) where
+module _ (m b at k : ℕ) (xs l : Bytes) (place : at ≡ bodyAt (start4 m)) (size : k ≡ edgeBytes b) (long : length l ≡ k) (room : endOf m b ≤ length xs) where
   before : length (take at xs) ≡ at
   before = length-take-le at xs (omega (arith, edges-end m b))
 

@@ -4,33 +4,20 @@ ghost use mathlib.Core.Path.{_≡_};
 ghost use mathlib.Core.List.{[], _∷_, _++_};
 ghost use lib.ListN.{length, getD, take, drop};
 ghost use lib.Dec.{ltb};
-ghost use Rattle.loes.specs.Limits.{maxWidth, maxEdges, blockBits, subBlockBits};
+ghost use Rattle.loes.specs.Limits.{maxWidth, maxEdges, blockBits, subBlockBits, lengthBytes, headBytes, widthBytes, countBytes, levelEntry, blockEntry, subBlockEntry};
 ghost use Rattle.loes.specs.Bytes.{bigEndian, bigEndians, started, bitsIn, front};
 ghost use Rattle.loes.specs.Edges.{ones};
 ghost use Rattle.loes.specs.Encode.{field, subBlockOnes, encode};
-ghost use Rattle.loes.specs.Held.{held, Holds};
+ghost use Rattle.loes.specs.Held.{entryHeld, Holds};
 ghost use Rattle.loes.specs.Model.{writes};
-ghost use Rattle.loes.specs.Read.{levelBytes, edgeBytes, blockBytes, subBlockBytes, start4, endOf};
+ghost use Rattle.loes.specs.Read.{levelBytes, edgeBytes, blockBytes, subBlockBytes, bodyAt, start3, start4, endOf};
 ghost use Rattle.bits.specs.Tables.{Tallies};
-ghost use Rattle.build.specs.Writing.{Sealed, standing, Counts, Shaped, maxBlocks, leading, Based, indexed, writtenOutcome};
+ghost use Rattle.build.specs.Writing.{HoldsOnly, standing, Counts, Shaped, maxBlocks, leading, Based, indexed, writtenOutcome};
 use bits::EdgeOffset;
 use encoding::Encoding;
 
-// The bytes of a sub-block, and how many sub-blocks a block has.
-const SUB_BLOCK_BYTES: usize = Encoding::SUB_BLOCK_BITS / 8;
-
-const SUB_BLOCKS: usize = Encoding::BLOCK_BITS / Encoding::SUB_BLOCK_BITS;
-
-// What is added to an edge count to round its blocks and sub-blocks up.
-const BLOCK_REST: usize = Encoding::BLOCK_BITS - 1;
-
-const SUB_BLOCK_REST: usize = Encoding::SUB_BLOCK_BITS - 1;
-
-// The bytes of a field's tag and length.
-const HEAD: usize = 3;
-
-// As many blocks as there can be.
-const MAX_BLOCKS: usize = (Encoding::MAX_EDGES + BLOCK_REST) / Encoding::BLOCK_BITS;
+// As many blocks as there can be: the most edges do not fill the last.
+const MAX_BLOCKS: usize = Encoding::MAX_EDGES / Encoding::BLOCK_BITS + 1;
 
 // A number in 2 bytes at the front of a buffer.
 fn put2(out: &mut [u8], n: usize)
@@ -63,8 +50,8 @@ fn put8(out: &mut [u8], n: usize)
 
 // A field's tag and length.
 fn put_head(out: &mut [u8], tag: u8, n: usize)
-    requires { ⌜ 3 ≤ length (now out) ⌝ }
-    ensures { λ _. ⌜ now (out .exit) ≡ front (tag ∷ bigEndian 2 n) (now (out .entry)) ⌝ }
+    requires { ⌜ headBytes ≤ length (now out) ⌝ }
+    ensures { λ _. ⌜ now (out .exit) ≡ front (tag ∷ bigEndian lengthBytes n) (now (out .entry)) ⌝ }
 {
     out[0] = tag;
     out[1] = (n / 256 % 256) as u8;
@@ -147,14 +134,14 @@ fn level_ends(edges: &[u8], t: &[u8], m: usize, b: usize, ends: &mut [usize]) ->
 // ---- Fields of numbers, each written behind its head one after another
 // Field 3: where each of m levels ends.
 fn put_levels(out: &mut [u8], m: usize, ends: &[usize])
-    requires { ⌜ (3 + levelBytes m ≤ length (now out)) × (m ≤ maxWidth) × (m ≤ length (now ends)) ⌝ }
-    ensures { λ _. ⌜ now (out .exit) ≡ front (field 3 (bigEndians 4 (λ (d : ℕ). getD (now (ends .entry)) d 0) m)) (now (out .entry)) ⌝ }
+    requires { ⌜ (headBytes + levelBytes m ≤ length (now out)) × (m ≤ maxWidth) × (m ≤ length (now ends)) ⌝ }
+    ensures { λ _. ⌜ now (out .exit) ≡ front (field 3 (bigEndians levelEntry (λ (d : ℕ). getD (now (ends .entry)) d 0) m)) (now (out .entry)) ⌝ }
 {
-    put_head(out, 3, 4 * m);
+    put_head(out, 3, Encoding::LEVEL_ENTRY * m);
     let mut d = 0;
     while d < m {
         let end = ends[d];
-        let at = HEAD + 4 * d;
+        let at = Encoding::HEAD_BYTES + Encoding::LEVEL_ENTRY * d;
         put4(&mut out[at..], end);
         d += 1;
     }
@@ -162,15 +149,15 @@ fn put_levels(out: &mut [u8], m: usize, ends: &[usize])
 
 // Field 5: for each of so many blocks, the set bits before it.
 fn put_blocks(out: &mut [u8], blocks: usize, bases: &[usize])
-    requires { ⌜ (3 + 8 * blocks ≤ length (now out)) × (blocks ≤ length (now bases)) × (length (now bases) ≤ maxBlocks) ⌝ }
+    requires { ⌜ (headBytes + blockEntry * blocks ≤ length (now out)) × (blocks ≤ length (now bases)) × (length (now bases) ≤ maxBlocks) ⌝ }
     requires { ⌜ ((j : ℕ) → j < blocks → getD (now bases) j 0 < 2 ^ 32) ⌝ }
-    ensures { λ _. ⌜ now (out .exit) ≡ front (field 5 (bigEndians 8 (λ (j : ℕ). getD (now (bases .entry)) j 0) blocks)) (now (out .entry)) ⌝ }
+    ensures { λ _. ⌜ now (out .exit) ≡ front (field 5 (bigEndians blockEntry (λ (j : ℕ). getD (now (bases .entry)) j 0) blocks)) (now (out .entry)) ⌝ }
 {
-    put_head(out, 5, 8 * blocks);
+    put_head(out, 5, Encoding::BLOCK_ENTRY * blocks);
     let mut j = 0;
     while j < blocks {
         let n = bases[j];
-        let at = HEAD + 8 * j;
+        let at = Encoding::HEAD_BYTES + Encoding::BLOCK_ENTRY * j;
         put8(&mut out[at..], n);
         j += 1;
     }
@@ -178,22 +165,22 @@ fn put_blocks(out: &mut [u8], blocks: usize, bases: &[usize])
 
 // Field 6, at a place behind the edges, with which the buffer begins: for each started sub-block, the set bits of its block before it. The set bits before each block are met on the way.
 fn put_sub_blocks(out: &mut [u8], at: usize, t: &[u8], b: usize, bases: &mut [usize])
-    requires { ⌜ (edgeBytes b ≤ at) × (at + 3 + subBlockBytes b ≤ length (now out)) × (b ≤ maxEdges) × Tallies (now t) × (length (now bases) ≡ maxBlocks) ⌝ }
-    ensures { λ _. ⌜ now (out .exit) ≡ front (take at (now (out .entry)) ++ field 6 (bigEndians 2 (subBlockOnes (leading b (now (out .entry)))) (started subBlockBits b))) (now (out .entry)) ⌝ }
+    requires { ⌜ (edgeBytes b ≤ at) × (bodyAt at + subBlockBytes b ≤ length (now out)) × (b ≤ maxEdges) × Tallies (now t) × (length (now bases) ≡ maxBlocks) ⌝ }
+    ensures { λ _. ⌜ now (out .exit) ≡ front (take at (now (out .entry)) ++ field 6 (bigEndians subBlockEntry (subBlockOnes (leading b (now (out .entry)))) (started subBlockBits b))) (now (out .entry)) ⌝ }
     ensures { λ _. ⌜ Based (leading b (now (out .entry))) (started blockBits b) (now (bases .exit)) ⌝ }
 {
-    let len = (b + 7) / 8;
-    let subs = (b + SUB_BLOCK_REST) / Encoding::SUB_BLOCK_BITS;
-    put_head(&mut out[at..], 6, 2 * subs);
+    let len = bits::bytes_for(b);
+    let subs = bits::started_by(b, Encoding::SUB_BLOCK_BITS);
+    put_head(&mut out[at..], 6, Encoding::SUB_BLOCK_ENTRY * subs);
     let mut seen = Seen { bytes: 0, ones: 0 };
     let mut base = 0;
     let mut j = 0;
     while j < subs {
-        seen = count_to(&out[..len], t, seen, SUB_BLOCK_BYTES * j);
+        seen = count_to(&out[..len], t, seen, Encoding::SUB_BLOCK_BYTES * j);
         let n = seen.ones;
         base = encoding::block_base(j, base, n);
-        bases[j / SUB_BLOCKS] = base;
-        let next = at + HEAD + 2 * j;
+        bases[j / Encoding::SUB_BLOCKS] = base;
+        let next = at + Encoding::HEAD_BYTES + Encoding::SUB_BLOCK_ENTRY * j;
         put2(&mut out[next..], n - base);
         j += 1;
     }
@@ -201,30 +188,30 @@ fn put_sub_blocks(out: &mut [u8], at: usize, t: &[u8], b: usize, bases: &mut [us
 
 // Field 1: the width.
 fn put_width(out: &mut [u8], m: usize)
-    requires { ⌜ 5 ≤ length (now out) ⌝ }
-    ensures { λ _. ⌜ now (out .exit) ≡ front (field 1 (bigEndian 2 m)) (now (out .entry)) ⌝ }
+    requires { ⌜ headBytes + widthBytes ≤ length (now out) ⌝ }
+    ensures { λ _. ⌜ now (out .exit) ≡ front (field 1 (bigEndian widthBytes m)) (now (out .entry)) ⌝ }
 {
-    put_head(out, 1, 2);
-    put2(&mut out[HEAD..], m);
+    put_head(out, 1, Encoding::WIDTH_BYTES);
+    put2(&mut out[Encoding::HEAD_BYTES..], m);
 }
 
 // Field 2: the number of members.
 fn put_count(out: &mut [u8], n: usize)
-    requires { ⌜ 7 ≤ length (now out) ⌝ }
-    ensures { λ _. ⌜ now (out .exit) ≡ front (field 2 (bigEndian 4 n)) (now (out .entry)) ⌝ }
+    requires { ⌜ headBytes + countBytes ≤ length (now out) ⌝ }
+    ensures { λ _. ⌜ now (out .exit) ≡ front (field 2 (bigEndian countBytes n)) (now (out .entry)) ⌝ }
 {
-    put_head(out, 2, 4);
-    put4(&mut out[HEAD..], n);
+    put_head(out, 2, Encoding::COUNT_BYTES);
+    put4(&mut out[Encoding::HEAD_BYTES..], n);
 }
 
 // Fields 1 to 3, each behind the one before it.
 fn put_shape(out: &mut [u8], m: usize, n: usize, ends: &[usize])
-    requires { ⌜ (15 + levelBytes m ≤ length (now out)) × (m ≤ maxWidth) × (m ≤ length (now ends)) ⌝ }
-    ensures { λ _. ⌜ now (out .exit) ≡ front ((field 1 (bigEndian 2 m) ++ field 2 (bigEndian 4 n)) ++ field 3 (bigEndians 4 (λ (d : ℕ). getD (now (ends .entry)) d 0) m)) (now (out .entry)) ⌝ }
+    requires { ⌜ (bodyAt start3 + levelBytes m ≤ length (now out)) × (m ≤ maxWidth) × (m ≤ length (now ends)) ⌝ }
+    ensures { λ _. ⌜ now (out .exit) ≡ front ((field 1 (bigEndian widthBytes m) ++ field 2 (bigEndian countBytes n)) ++ field 3 (bigEndians levelEntry (λ (d : ℕ). getD (now (ends .entry)) d 0) m)) (now (out .entry)) ⌝ }
 {
     put_width(out, m);
-    put_count(&mut out[5..], n);
-    put_levels(&mut out[12..], m, ends);
+    put_count(&mut out[Encoding::START2..], n);
+    put_levels(&mut out[Encoding::START3..], m, ends);
 }
 
 // Room for the set bits before each block.
@@ -236,30 +223,31 @@ fn no_bases() -> [usize; MAX_BLOCKS]
 
 // Fields 5 and 6 behind the edges, with which the buffer begins: field 5 last, when what it says is known.
 fn put_index(out: &mut [u8], t: &[u8], b: usize)
-    requires { ⌜ (edgeBytes b + 3 + blockBytes b + 3 + subBlockBytes b ≤ length (now out)) × (b ≤ maxEdges) × Tallies (now t) ⌝ }
+    requires { ⌜ (edgeBytes b + headBytes + blockBytes b + headBytes + subBlockBytes b ≤ length (now out)) × (b ≤ maxEdges) × Tallies (now t) ⌝ }
     ensures { λ _. ⌜ now (out .exit) ≡ front (indexed b (take (edgeBytes b) (now (out .entry)))) (now (out .entry)) ⌝ }
 {
-    let len = (b + 7) / 8;
-    let blocks = (b + BLOCK_REST) / Encoding::BLOCK_BITS;
+    let len = bits::bytes_for(b);
+    let blocks = bits::started_by(b, Encoding::BLOCK_BITS);
     let mut bases = no_bases();
-    put_sub_blocks(out, len + HEAD + 8 * blocks, t, b, &mut bases);
+    let at = len + Encoding::HEAD_BYTES + Encoding::BLOCK_ENTRY * blocks;
+    put_sub_blocks(out, at, t, b, &mut bases);
     put_blocks(&mut out[len..], blocks, &bases);
 }
 
 // From field 4 on: its head, and what is behind the edges that stand behind the head.
 fn put_edges(out: &mut [u8], t: &[u8], b: usize)
-    requires { ⌜ (3 + edgeBytes b + 3 + blockBytes b + 3 + subBlockBytes b ≤ length (now out)) × (b ≤ maxEdges) × Tallies (now t) ⌝ }
-    ensures { λ _. ⌜ now (out .exit) ≡ front ((4 ∷ bigEndian 2 (edgeBytes b)) ++ indexed b (take (edgeBytes b) (drop 3 (now (out .entry))))) (now (out .entry)) ⌝ }
+    requires { ⌜ (headBytes + edgeBytes b + headBytes + blockBytes b + headBytes + subBlockBytes b ≤ length (now out)) × (b ≤ maxEdges) × Tallies (now t) ⌝ }
+    ensures { λ _. ⌜ now (out .exit) ≡ front ((4 ∷ bigEndian lengthBytes (edgeBytes b)) ++ indexed b (take (edgeBytes b) (drop headBytes (now (out .entry))))) (now (out .entry)) ⌝ }
 {
-    put_head(out, 4, (b + 7) / 8);
-    put_index(&mut out[HEAD..], t, b);
+    put_head(out, 4, bits::bytes_for(b));
+    put_index(&mut out[Encoding::HEAD_BYTES..], t, b);
 }
 
 // ---- The length
 // Where the edges stand in an encoding of width m: behind field 4's head. The places up to there are the same for all sets of a width.
-pub fn edges_at(m: usize) -> usize
+pub fn edges_start(m: usize) -> usize
     requires { ⌜ m ≤ maxWidth ⌝ }
-    ensures { λ r. ⌜ r ≡ start4 m + 3 ⌝ }
+    ensures { λ r. ⌜ r ≡ bodyAt (start4 m) ⌝ }
 {
     let e = Encoding::new(m, 0, 0);
     e.edges
@@ -271,7 +259,7 @@ pub fn length_of(m: usize, b: usize) -> usize
     ensures { λ r. ⌜ r ≡ endOf m b ⌝ }
 {
     let e = Encoding::new(m, 0, b);
-    e.sub_blocks + 2 * ((b + SUB_BLOCK_REST) / Encoding::SUB_BLOCK_BITS)
+    encoding::end_of(e)
 }
 
 // The test of 14: whether a buffer of a length is too short for it.
@@ -298,24 +286,24 @@ fn no_ends() -> [usize; Encoding::MAX_WIDTH]
 
 // The encoding of the entry that edge bytes hold, at the front of a buffer in which they stand in their place already: every other field, around them.
 pub fn write_around_edges(m: usize, b: usize, t: &[u8], out: &mut [u8])
-    requires { ⌜ (endOf m b ≤ length (now out)) × Sealed m b (standing m b (now out)) × Tallies (now t) ⌝ }
-    ensures { λ _. ⌜ now (out .exit) ≡ front (encode (held m b (standing m b (now (out .entry))))) (now (out .entry)) ⌝ }
+    requires { ⌜ (endOf m b ≤ length (now out)) × HoldsOnly m b (standing m b (now out)) × Tallies (now t) ⌝ }
+    ensures { λ _. ⌜ now (out .exit) ≡ front (encode (entryHeld m b (standing m b (now (out .entry))))) (now (out .entry)) ⌝ }
 {
-    let at = edges_at(m);
-    let end = at + (b + 7) / 8;
+    let at = edges_start(m);
+    let end = at + bits::bytes_for(b);
     let mut ends = no_ends();
     let count = level_ends(&out[at..end], t, m, b, &mut ends);
     put_shape(out, m, count, &ends);
-    let field4 = at - HEAD;
+    let field4 = at - Encoding::HEAD_BYTES;
     put_edges(&mut out[field4..], t, b);
 }
 
 // The same from edge bytes elsewhere, which are put in their place first.
 pub fn write_fitting(m: usize, b: usize, edges: &[u8], t: &[u8], out: &mut [u8])
-    requires { ⌜ (endOf m b ≤ length (now out)) × Sealed m b (now edges) × Tallies (now t) ⌝ }
-    ensures { λ _. ⌜ now (out .exit) ≡ front (encode (held m b (now (edges .entry)))) (now (out .entry)) ⌝ }
+    requires { ⌜ (endOf m b ≤ length (now out)) × HoldsOnly m b (now edges) × Tallies (now t) ⌝ }
+    ensures { λ _. ⌜ now (out .exit) ≡ front (encode (entryHeld m b (now (edges .entry)))) (now (out .entry)) ⌝ }
 {
-    let at = edges_at(m);
+    let at = edges_start(m);
     let end = at + edges.len();
     let copied = bytes::copy(edges, &mut out[at..end]);
     write_around_edges(m, b, t, out);
@@ -323,8 +311,8 @@ pub fn write_fitting(m: usize, b: usize, edges: &[u8], t: &[u8], out: &mut [u8])
 
 // The same if it fits: nothing is written before that is known.
 pub fn write(m: usize, b: usize, edges: &[u8], t: &[u8], out: &mut [u8]) -> Written
-    requires { ⌜ Sealed m b (now edges) × Tallies (now t) ⌝ }
-    ensures { λ r. ⌜ writtenOutcome r (now (out .exit)) ≡ writes [] (held m b (now (edges .entry)) ∷ []) (now (out .entry) ∷ []) .outcome ⌝ }
+    requires { ⌜ HoldsOnly m b (now edges) × Tallies (now t) ⌝ }
+    ensures { λ r. ⌜ writtenOutcome r (now (out .exit)) ≡ writes [] (entryHeld m b (now (edges .entry)) ∷ []) (now (out .entry) ∷ []) .outcome ⌝ }
 {
     if too_short(m, b, out.len()) {
         return Written::Refused(loes::refusal::SHORT_BUFFER);

@@ -1,11 +1,11 @@
 -- No call is refused with 0: each test has one of the numbers 1 to 15.
 use Prim.Native.Nat.{ℕ, _<_}
 use mathlib.Core.Bool.{Bool, true, false, cond}
-use mathlib.Core.List.{List, [], _∷_, _++_}
+use mathlib.Core.List.{List, [], _∷_, _++_, flatten}
 use mathlib.Core.Option.{Option, none, some}
 use native.Mathlib.Omega.{arith}
 use lib.Dec.{eqb}
-use Rattle.loes.specs.Bytes.{Bytes, join}
+use Rattle.loes.specs.Bytes.{Bytes}
 use Rattle.loes.specs.Keys.{Key, smaller}
 use Rattle.loes.specs.Entry.{Entry, keysOf, count}
 use Rattle.loes.specs.Refusals.{Tests, test, firstOf}
@@ -43,10 +43,10 @@ abbrev EachNumbered : List Tests → Type 0
 EachNumbered [] = Unit {0}
 EachNumbered (a ∷ parts) = AllNumbered a × EachNumbered parts
 
-join-numbered : (parts : List Tests) → EachNumbered parts → AllNumbered (join parts)
-unfolding join
-join-numbered [] p = tt
-join-numbered (a ∷ parts) p = append-numbered a (join parts) (p .0) (join-numbered parts (p .1))
+flatten-numbered : (parts : List Tests) → EachNumbered parts → AllNumbered (flatten parts)
+unfolding flatten
+flatten-numbered [] p = tt
+flatten-numbered (a ∷ parts) p = append-numbered a (flatten parts) (p .0) (flatten-numbered parts (p .1))
 
 field-numbered : (tag n : ℕ) (l : Bytes) (at : ℕ) → AllNumbered (fieldTests tag n l at)
 unfolding fieldTests
@@ -57,15 +57,15 @@ one-numbered b k h = (test-numbered b k h, tt)
 
 head-numbered : (l : Bytes) → AllNumbered (headTests l)
 unfolding headTests
-head-numbered l = join-numbered _ (field-numbered _ _ l _, (one-numbered _ 4 (omega arith), (field-numbered _ _ l _, (field-numbered _ _ l _, (one-numbered _ 5 (omega arith), tt)))))
+head-numbered l = flatten-numbered _ (field-numbered _ _ l _, (one-numbered _ 4 (omega arith), (field-numbered _ _ l _, (field-numbered _ _ l _, (one-numbered _ 5 (omega arith), tt)))))
 
 tail-numbered : (m b : ℕ) (l : Bytes) → AllNumbered (tailTests m b l)
 unfolding tailTests
-tail-numbered m b l = join-numbered _ (field-numbered _ _ l _, (field-numbered _ _ l _, (field-numbered _ _ l _, (one-numbered _ 6 (omega arith), tt))))
+tail-numbered m b l = flatten-numbered _ (field-numbered _ _ l _, (field-numbered _ _ l _, (field-numbered _ _ l _, (one-numbered _ 6 (omega arith), tt))))
 
 read-numbered : (l : Bytes) → AllNumbered (readTests l)
 unfolding readTests
-read-numbered l = join-numbered _ (head-numbered l, (tail-numbered _ _ l, (one-numbered _ 7 (omega arith), tt)))
+read-numbered l = flatten-numbered _ (head-numbered l, (tail-numbered _ _ l, (one-numbered _ 7 (omega arith), tt)))
 
 -- ---- Answers by tests
 cond-positive : (b : Bool) (x y : Answer) → Positive x → Positive y → Positive (cond b x y)

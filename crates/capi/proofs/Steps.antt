@@ -11,10 +11,9 @@ use Rattle.loes.specs.Refusals.{badCursor}
 use Rattle.loes.specs.Read.{Reading, entryIn, rejected, opened, read}
 use Rattle.loes.specs.Cursor as model
 use Rattle.loes.proofs.Tests.{lt-yes, lt-no, yes-lt}
-use Rattle.cursor.specs.Steps.{at}
 use Rattle.capi.specs.declared.Answer.{Answer}
 use Rattle.capi.specs.Coded.{refuses}
-use Rattle.capi.specs.Steps.{Walked, walks, stateCode, stateIn, cursorIn, isState, walkedBy, doneAfter, stepAfter, stepCall}
+use Rattle.capi.specs.Steps.{StepGiven, stepGives, stateCode, stateIn, cursorIn, isState, stepCoded, doneAfter, stepAfter, stepCall}
 
 pub no-state : (s : ℕ) → 2 < s → isState s ≡ false
 unfolding isState
@@ -28,27 +27,27 @@ pub state-is : (s : ℕ) → isState s ≡ true → s ≤ 2
 unfolding isState
 state-is s h = omega (arith, yes-lt s 3 h)
 
-pub right-coded : (e : Entry) (x : model.State) (s : ℕ) (os : List ℕ) → x ≡ stateIn s → model.isCursorOf e (cursorIn s os) ≡ true → model.isCursorOf e (at x os) ≡ true
+pub right-coded : (e : Entry) (x : model.State) (s : ℕ) (os : List ℕ) → x ≡ stateIn s → model.isCursorOf e (cursorIn s os) ≡ true → model.isCursorOf e (model.cursorWith x os) ≡ true
 right-coded e x s os h q = rw h q
 
 -- refused with the encoding, or for what is no state
-pub call-kept : (l : Bytes) (s k : ℕ) (os : List ℕ) (out : Bytes) (a : Answer) → read l ≡ rejected k → a ≡ refuses k → walks a s os out ≡ stepCall l s os out
+pub call-kept : (l : Bytes) (s k : ℕ) (os : List ℕ) (out : Bytes) (a : Answer) → read l ≡ rejected k → a ≡ refuses k → stepGives a s os out ≡ stepCall l s os out
 unfolding doneAfter
 call-kept l s k os out a h q = rw (h, q)
 
-pub not-coded : (e : Entry) (s : ℕ) (os : List ℕ) (out : Bytes) (a : Answer) → isState s ≡ false → a ≡ refuses badCursor → walks a s os out ≡ stepAfter (opened e) s os out
+pub not-coded : (e : Entry) (s : ℕ) (os : List ℕ) (out : Bytes) (a : Answer) → isState s ≡ false → a ≡ refuses badCursor → stepGives a s os out ≡ stepAfter (opened e) s os out
 unfolding doneAfter
 not-coded e s os out a h q = rw (h, q)
 
 -- the step, or a walk of steps
 module _ (does : Entry → model.Cursor → Bytes → model.Advanced) where
-  pub walked-on : (e : Entry) (x : model.State) (s : ℕ) (os out : List ℕ) (k : model.Cursor) (d : model.Advanced) (w : Walked) → isState s ≡ true → x ≡ stateIn s → k ≡ at x os → d ≡ does e k out → w ≡ walkedBy d → w ≡ doneAfter does (opened e) s os out
+  pub walked-on : (e : Entry) (x : model.State) (s : ℕ) (os out : List ℕ) (k : model.Cursor) (d : model.Advanced) (w : StepGiven) → isState s ≡ true → x ≡ stateIn s → k ≡ model.cursorWith x os → d ≡ does e k out → w ≡ stepCoded d → w ≡ doneAfter does (opened e) s os out
   unfolding doneAfter
   walked-on e x s os out k d w h z c a q =
-      let y : walkedBy (does e (cursorIn s os) out) ≡ doneAfter does (opened e) s os out = rw h in
-      q ∙ ap walkedBy (a ∙ ap (λ (n : model.Cursor). does e n out) (c ∙ ap (λ (n : model.State). at n os) z)) ∙ y
+      let y : stepCoded (does e (cursorIn s os) out) ≡ doneAfter does (opened e) s os out = rw h in
+      q ∙ ap stepCoded (a ∙ ap (λ (n : model.Cursor). does e n out) (c ∙ ap (λ (n : model.State). model.cursorWith n os) z)) ∙ y
 
-  pub call-on : (l : Bytes) (s : ℕ) (os : List ℕ) (out : Bytes) (w : Walked) → read l ≡ opened (entryIn l) → w ≡ doneAfter does (opened (entryIn l)) s os out → w ≡ doneAfter does (read l) s os out
+  pub call-on : (l : Bytes) (s : ℕ) (os : List ℕ) (out : Bytes) (w : StepGiven) → read l ≡ opened (entryIn l) → w ≡ doneAfter does (opened (entryIn l)) s os out → w ≡ doneAfter does (read l) s os out
   call-on l s os out w o q = rw o q
 
 -- ---- A step in C is the model's step on bytes
@@ -63,11 +62,11 @@ state-again s h =
       ]
     ]
 
-step-reading : (r : Reading) (s : ℕ) (os : List ℕ) (out : Bytes) → isState s ≡ true → stepAfter r s os out ≡ walkedBy (model.advanceReading r (cursorIn s os) out)
+step-reading : (r : Reading) (s : ℕ) (os : List ℕ) (out : Bytes) → isState s ≡ true → stepAfter r s os out ≡ stepCoded (model.advanceReading r (cursorIn s os) out)
 unfolding doneAfter model.advanceReading model.stays
 step-reading (rejected k) s os out h = rw (state-again s h)
 step-reading (opened e) s os out h = rw h
 
-pub step-call : (l : Bytes) (s : ℕ) (os : List ℕ) (out : Bytes) → isState s ≡ true → stepCall l s os out ≡ walkedBy (model.advanceCall l (cursorIn s os) out)
+pub step-call : (l : Bytes) (s : ℕ) (os : List ℕ) (out : Bytes) → isState s ≡ true → stepCall l s os out ≡ stepCoded (model.advanceCall l (cursorIn s os) out)
 unfolding model.advanceCall
 step-call l s os out h = step-reading (read l) s os out h

@@ -11,22 +11,26 @@ use Rattle.loes.specs.Cursor as model
 use Rattle.cursor.specs.Steps.{numbers}
 use Rattle.cursor.specs.Filling.{advances}
 use Rattle.capi.specs.declared.Answer.{Answer}
-use Rattle.capi.specs.declared.Moved.{Moved}
+use Rattle.capi.specs.declared.Cursor.{Cursor}
+use Rattle.capi.specs.declared.CursorAnswer.{CursorAnswer}
 use Rattle.capi.specs.Coded.{refuses, codeOf}
 
 -- a step's answer, and the cursor's state, its offsets and the output buffer at exit
-pub record Walked : Type 0 where
+pub record StepGiven : Type 0 where
   pub answer : Answer
   pub state : ℕ
   pub offsets : List ℕ
   pub buffer : Bytes
 
-abbrev pub walks : Answer → ℕ → List ℕ → Bytes → Walked
-walks a s os out = record { answer = a; state = s; offsets = os; buffer = out }
+abbrev pub stepGives : Answer → ℕ → List ℕ → Bytes → StepGiven
+stepGives a s os out = record { answer = a; state = s; offsets = os; buffer = out }
 
--- after a step by value
-abbrev pub moves : Moved → Bytes → Walked
-moves r out = walks (r .answer) (r .cursor .state) (numbers (r .cursor .offsets)) out
+-- the same with the cursor as C has it, after a step of a lent one and after a step by value
+abbrev pub cursorGives : Answer → Cursor → Bytes → StepGiven
+cursorGives a c out = stepGives a (c .state) (numbers (c .offsets)) out
+
+abbrev pub moves : CursorAnswer → Bytes → StepGiven
+moves r out = cursorGives (r .answer) (r .cursor) out
 
 abbrev pub stateCode : model.State → ℕ
 stateCode model.before = 0
@@ -38,31 +42,34 @@ abbrev pub stateIn : ℕ → model.State
 stateIn s = cond (eqb s 0) model.before (cond (eqb s 1) model.at model.after)
 
 abbrev pub cursorIn : ℕ → List ℕ → model.Cursor
-cursorIn s os = record { state = stateIn s; offsets = os }
+cursorIn s os = model.cursorWith (stateIn s) os
 
 -- a number of a state
 unfoldable pub isState : ℕ → Bool
 isState s = ltb s 3
 
-abbrev pub walkedBy : model.Advanced → Walked
-walkedBy a = walks (codeOf (a .answer)) (stateCode (a .cursor .state)) (a .cursor .offsets) (a .buffer)
+abbrev pub stepCoded : model.Advanced → StepGiven
+stepCoded a = stepGives (codeOf (a .answer)) (stateCode (a .cursor .state)) (a .cursor .offsets) (a .buffer)
 
 -- refused: state, offsets and buffer keep their values
-abbrev pub keeps : ℕ → ℕ → List ℕ → Bytes → Walked
-keeps k s os out = walks (refuses k) s os out
+abbrev pub keeps : ℕ → ℕ → List ℕ → Bytes → StepGiven
+keeps k s os out = stepGives (refuses k) s os out
 
 -- the encoding's refusals, then 15 for what is no state, then what the model does with an entry, a cursor and a buffer
-unfoldable pub doneAfter : (Entry → model.Cursor → Bytes → model.Advanced) → Reading → ℕ → List ℕ → Bytes → Walked
+unfoldable pub doneAfter : (Entry → model.Cursor → Bytes → model.Advanced) → Reading → ℕ → List ℕ → Bytes → StepGiven
 doneAfter does (rejected k) s os out = keeps k s os out
-doneAfter does (opened e) s os out = cond (isState s) (walkedBy (does e (cursorIn s os) out)) (keeps badCursor s os out)
+doneAfter does (opened e) s os out = cond (isState s) (stepCoded (does e (cursorIn s os) out)) (keeps badCursor s os out)
 
 -- the model's step
-abbrev pub stepAfter : Reading → ℕ → List ℕ → Bytes → Walked
+abbrev pub stepAfter : Reading → ℕ → List ℕ → Bytes → StepGiven
 stepAfter = doneAfter model.advance
 
-abbrev pub stepCall : Bytes → ℕ → List ℕ → Bytes → Walked
+abbrev pub stepCall : Bytes → ℕ → List ℕ → Bytes → StepGiven
 stepCall l = stepAfter (read l)
 
+abbrev pub cursorCall : Bytes → Cursor → Bytes → StepGiven
+cursorCall l c out = stepCall l (c .state) (numbers (c .offsets)) out
+
 -- a step, and if it wrote a key, as many more as the buffer has room for
-abbrev pub walkCall : Bytes → ℕ → List ℕ → Bytes → Walked
+abbrev pub walkCall : Bytes → ℕ → List ℕ → Bytes → StepGiven
 walkCall l = doneAfter advances (read l)

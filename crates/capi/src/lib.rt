@@ -17,7 +17,7 @@ ghost use Rattle.cursor.specs.Steps as cursor;
 ghost use Rattle.cursor.specs.Steps.{numbers};
 ghost use Rattle.build.specs.Writing as build;
 ghost use Rattle.capi.specs.Coded.{refuses, says, nothing, codeOf, gives, coded, opening, noOpening, openingOf, Tells};
-ghost use Rattle.capi.specs.Steps.{walks, moves, stateCode, stateIn, cursorIn, isState, walkedBy, stepAfter, stepCall, walkCall};
+ghost use Rattle.capi.specs.Steps.{stepGives, cursorGives, moves, stateCode, stateIn, cursorIn, isState, stepCoded, stepAfter, stepCall, cursorCall, walkCall};
 use bits::EdgeOffset;
 use bits::MemberIndex;
 use cursor::State;
@@ -75,14 +75,14 @@ pub struct Cursor {
 }
 
 // A step by value: the cursor that it leaves, and its answer.
-pub struct Moved {
+pub struct CursorAnswer {
     pub cursor: Cursor,
     pub answer: Answer,
 }
 
 // A step over lent offsets: its answer, and the state that it leaves.
 #[repr(C)]
-pub struct Step {
+pub struct StateAnswer {
     pub answer: Answer,
     pub state: usize,
 }
@@ -119,7 +119,7 @@ fn absent() -> Answer
 }
 
 // The bytes of a key, if there is one.
-fn key_bytes(n: usize) -> Answer
+fn key_coded(n: usize) -> Answer
     ensures { λ r. ⌜ r ≡ codeOf (model.wroteKey n) ⌝ }
 {
     if n == 0 {
@@ -167,12 +167,12 @@ fn ranked(a: Ranked) -> Answer
     }
 }
 
-fn key_written(a: query::Written) -> Answer
-    ensures { λ r. ⌜ ((out : Bytes) → gives r (out ∷ []) ≡ coded (query.writtenOutcome a out)) ⌝ }
+fn key_written(a: query::WrittenKey) -> Answer
+    ensures { λ r. ⌜ ((out : Bytes) → gives r (out ∷ []) ≡ coded (query.keyOutcome a out)) ⌝ }
 {
     match a {
-        query::Written::Refused(k) => refused(k),
-        query::Written::Bytes(n) => key_bytes(n),
+        query::WrittenKey::Refused(k) => refused(k),
+        query::WrittenKey::Bytes(n) => key_coded(n),
     }
 }
 
@@ -311,24 +311,24 @@ fn state_code(s: State) -> usize
     }
 }
 
-fn step_answer(a: cursor::Step) -> Answer
+fn step_answer(a: cursor::StepAnswer) -> Answer
     ensures { λ r. ⌜ r ≡ codeOf (cursor.stepAnswer a) ⌝ }
 {
     match a {
-        cursor::Step::Refused(k) => refused(k),
-        cursor::Step::Wrote(n) => key_bytes(n),
+        cursor::StepAnswer::Refused(k) => refused(k),
+        cursor::StepAnswer::Wrote(n) => key_coded(n),
     }
 }
 
 // A step's answer and the cursor after it.
-fn step_coded(s: Stepped) -> Moved
-    ensures { λ r. ⌜ ((out : Bytes) → moves r out ≡ walkedBy (cursor.steppedOf s out)) ⌝ }
+fn step_coded(s: Stepped) -> CursorAnswer
+    ensures { λ r. ⌜ ((out : Bytes) → moves r out ≡ stepCoded (cursor.steppedOf s out)) ⌝ }
 {
     let to = s.cursor;
     let state = to.state;
     let offsets = to.offsets;
     let answer = s.answer;
-    Moved {
+    CursorAnswer {
         cursor: Cursor {
             state: state_code(state),
             offsets,
@@ -338,13 +338,13 @@ fn step_coded(s: Stepped) -> Moved
 }
 
 // Behind the check: 15 for what is no state, then as the cursor's step says.
-fn advanced_in(l: &[u8], t: &[u8], e: Encoding, c: Cursor, out: &mut [u8]) -> Moved
+fn advanced_in(l: &[u8], t: &[u8], e: Encoding, c: Cursor, out: &mut [u8]) -> CursorAnswer
     requires { ⌜ Opens (now l) e × Tallies (now t) ⌝ }
     ensures { λ r. ⌜ moves r (now (out .exit)) ≡ stepAfter (opened (entryIn (now (l .entry)))) (c .state) (numbers (c .offsets)) (now (out .entry)) ⌝ }
 {
     let s = c.state;
     if s > AFTER {
-        return Moved {
+        return CursorAnswer {
             cursor: c,
             answer: refused(BAD_CURSOR),
         };
@@ -356,12 +356,12 @@ fn advanced_in(l: &[u8], t: &[u8], e: Encoding, c: Cursor, out: &mut [u8]) -> Mo
 }
 
 // The step by value.
-pub fn advanced(l: &[u8], c: Cursor, out: &mut [u8]) -> Moved
-    ensures { λ r. ⌜ moves r (now (out .exit)) ≡ stepCall (now (l .entry)) (c .state) (numbers (c .offsets)) (now (out .entry)) ⌝ }
+pub fn advanced(l: &[u8], c: Cursor, out: &mut [u8]) -> CursorAnswer
+    ensures { λ r. ⌜ moves r (now (out .exit)) ≡ cursorCall (now (l .entry)) c (now (out .entry)) ⌝ }
 {
     let t = bits::tallies();
     match encoding::check(l, &t) {
-        Checked::Refused(k) => Moved {
+        Checked::Refused(k) => CursorAnswer {
             cursor: c,
             answer: refused(k),
         },
@@ -372,7 +372,7 @@ pub fn advanced(l: &[u8], c: Cursor, out: &mut [u8]) -> Moved
 // Moves a lent cursor on to the next member and writes its key to the front of a buffer (document 01: the step).
 #[no_mangle]
 pub extern "C" fn loes_advance(l: &[u8], cursor: &mut Cursor, out: &mut [u8]) -> Answer
-    ensures { λ r. ⌜ walks r (now (cursor .exit) .state) (numbers (now (cursor .exit) .offsets)) (now (out .exit)) ≡ stepCall (now (l .entry)) (now (cursor .entry) .state) (numbers (now (cursor .entry) .offsets)) (now (out .entry)) ⌝ }
+    ensures { λ r. ⌜ cursorGives r (now (cursor .exit)) (now (out .exit)) ≡ cursorCall (now (l .entry)) (now (cursor .entry)) (now (out .entry)) ⌝ }
 {
     let s = advanced(l, *cursor, out);
     *cursor = s.cursor;
@@ -463,12 +463,12 @@ pub extern "C" fn loes_unchecked_rank(
 }
 
 // ---- Steps behind the check over lent offsets
-fn walk_coded(w: Walked) -> Step
-    ensures { λ r. ⌜ ((os : List ℕ) (out : Bytes) → walks (r .answer) (r .state) os out ≡ walkedBy (cursor.walkedOf w os out)) ⌝ }
+fn walk_coded(w: Walked) -> StateAnswer
+    ensures { λ r. ⌜ ((os : List ℕ) (out : Bytes) → stepGives (r .answer) (r .state) os out ≡ stepCoded (cursor.walkedOf w os out)) ⌝ }
 {
     let to = w.state;
     let answer = w.answer;
-    Step {
+    StateAnswer {
         answer: step_answer(answer),
         state: state_code(to),
     }
@@ -484,12 +484,12 @@ pub extern "C" fn loes_unchecked_advance(
     state: usize,
     offsets: &mut [usize],
     out: &mut [u8],
-) -> Step
+) -> StateAnswer
     requires { ⌜ Tells width count bits (now l) ⌝ }
-    ensures { λ r. ⌜ walks (r .answer) (r .state) (now (offsets .exit)) (now (out .exit)) ≡ stepCall (now (l .entry)) state (now (offsets .entry)) (now (out .entry)) ⌝ }
+    ensures { λ r. ⌜ stepGives (r .answer) (r .state) (now (offsets .exit)) (now (out .exit)) ≡ stepCall (now (l .entry)) state (now (offsets .entry)) (now (out .entry)) ⌝ }
 {
     if state > AFTER {
-        return Step {
+        return StateAnswer {
             answer: refused(BAD_CURSOR),
             state,
         };
@@ -510,9 +510,9 @@ pub extern "C" fn loes_unchecked_next(
     state: usize,
     offsets: &mut [usize],
     out: &mut [u8],
-) -> Step
+) -> StateAnswer
     requires { ⌜ Tells width count bits (now l) × (isState state ≡ true) × (isCursorOf (entryIn (now l)) (cursorIn state (now offsets)) ≡ true) ⌝ }
-    ensures { λ r. ⌜ walks (r .answer) (r .state) (now (offsets .exit)) (now (out .exit)) ≡ stepCall (now (l .entry)) state (now (offsets .entry)) (now (out .entry)) ⌝ }
+    ensures { λ r. ⌜ stepGives (r .answer) (r .state) (now (offsets .exit)) (now (out .exit)) ≡ stepCall (now (l .entry)) state (now (offsets .entry)) (now (out .entry)) ⌝ }
 {
     let e = Encoding::new(width, count, bits);
     let from = state_of(state);
@@ -529,9 +529,9 @@ pub extern "C" fn loes_unchecked_walk(
     state: usize,
     offsets: &mut [usize],
     out: &mut [u8],
-) -> Step
+) -> StateAnswer
     requires { ⌜ Tells width count bits (now l) × (isState state ≡ true) × (isCursorOf (entryIn (now l)) (cursorIn state (now offsets)) ≡ true) ⌝ }
-    ensures { λ r. ⌜ walks (r .answer) (r .state) (now (offsets .exit)) (now (out .exit)) ≡ walkCall (now (l .entry)) state (now (offsets .entry)) (now (out .entry)) ⌝ }
+    ensures { λ r. ⌜ stepGives (r .answer) (r .state) (now (offsets .exit)) (now (out .exit)) ≡ walkCall (now (l .entry)) state (now (offsets .entry)) (now (out .entry)) ⌝ }
 {
     let e = Encoding::new(width, count, bits);
     let from = state_of(state);

@@ -11,11 +11,11 @@ use native.Mathlib.Nat.{pow-suc, div-div-eq-div-mul}
 use lib.Dec.{eqb}
 use borrow.Author.Tests.{eq-eqb, ne-eqb}
 use Rattle.loes.specs.Bytes.{Bytes, bit, odd, bitAt, sameNumbers}
-use Rattle.loes.specs.Keys.{Key, any}
+use Rattle.loes.specs.Keys.{Key, anyOf}
 use Rattle.loes.specs.Edges.{edges, onesBefore}
 use Rattle.loes.specs.Read.{entryIn}
 use Rattle.loes.specs.Entry.{Entry, keysOf, edgesOf, edgeCount, Valid}
-use Rattle.loes.specs.Cursor.{at, allZero, offsetsRight, pathOf}
+use Rattle.loes.specs.Cursor.{at, allZero, offsetsRight, pathOf, hasPath}
 use Rattle.loes.proofs.Bits.{bit-odd}
 use Rattle.loes.proofs.Tree.{bit-le}
 use Rattle.loes.proofs.Navigation.{length-edgesBefore}
@@ -25,7 +25,7 @@ use Rattle.encoding.proofs.Opened.{opens-edge}
 use Rattle.loes.proofs.Tests.{lt-no, yes-eq, both}
 use Rattle.query.proofs.BitLists.{up, set-below, rank-is}
 use Rattle.query.proofs.Paths.{recordAt, Leading, leading-less}
-use Rattle.cursor.specs.Moves.{leadsOn, recordCode, turns, firstEdge, behind, movedOn, Moved, Movable, hasPath}
+use Rattle.cursor.specs.Moves.{leadsOn, recordCode, turns, firstEdge, behind, movedOn, Moved, Movable}
 use Rattle.cursor.proofs.Right.{lead-right, right-leads}
 use Rattle.cursor.proofs.Moves.{moved-above}
 
@@ -107,17 +107,17 @@ unfolding recordCode
 code-le e r = omega (arith, bit-le (getD e (2 * r) false), bit-le (getD e (2 * r + 1) false))
 
 -- ---- is_path: the first d offsets lead, to record r
-pub record Checked (e : List Bool) (os : List ℕ) (r d : ℕ) : Type 0 where
+pub record PathChecked (e : List Bool) (os : List ℕ) (r d : ℕ) : Type 0 where
   pub on : r ≡ recordAt e (λ (i : ℕ). getD os i 0) d
   pub leads : Leading e d (λ (i : ℕ). getD os i 0)
 
-pub check-first : (e : List Bool) (os : List ℕ) → Checked e os 0 0
+pub check-first : (e : List Bool) (os : List ℕ) → PathChecked e os 0 0
 check-first e os = record { on = unfold recordAt in refl; leads = tt }
 
 pub check-below : (e : List Bool) (r o : ℕ) → leadsOn e r o ≡ true → o < length e
 check-below e r o q = set-below e o (leads-yes e r o q .1)
 
-pub check-next : (e : List Bool) (os : List ℕ) (r d r' : ℕ) → Checked e os r d → leadsOn e r (getD os d 0) ≡ true → r' ≡ onesBefore e (getD os d 0) + 1 → Checked e os r' (d + 1)
+pub check-next : (e : List Bool) (os : List ℕ) (r d r' : ℕ) → PathChecked e os r d → leadsOn e r (getD os d 0) ≡ true → r' ≡ onesBefore e (getD os d 0) + 1 → PathChecked e os r' (d + 1)
 unfolding recordAt
 check-next e os r d r' c q z =
     let y = leads-yes e r (getD os d 0) q in
@@ -127,12 +127,12 @@ check-next e os r d r' c q z =
       leads = rw s (c .leads, (y .0 ∙ c .on, y .1));
     }
 
-module _ (e : Entry) (os : List ℕ) (long : e .width ≤ length os) (r d : ℕ) (c : Checked (edgesOf e) os r d) where
+module _ (e : Entry) (os : List ℕ) (long : e .width ≤ length os) (r d : ℕ) (c : PathChecked (edgesOf e) os r d) where
   pub check-fail : d < e .width → leadsOn (edgesOf e) r (getD os d 0) ≡ false → false ≡ hasPath e os
   unfolding leadsOn hasPath
-  check-fail dm q = go (any (λ (k : Key). sameNumbers (pathOf e k) (take (e .width) os)) (keysOf e)) refl
+  check-fail dm q = go (anyOf (λ (k : Key). sameNumbers (pathOf e k) (take (e .width) os)) (keysOf e)) refl
     where
-      go : (x : Bool) → any (λ (k : Key). sameNumbers (pathOf e k) (take (e .width) os)) (keysOf e) ≡ x → false ≡ x
+      go : (x : Bool) → anyOf (λ (k : Key). sameNumbers (pathOf e k) (take (e .width) os)) (keysOf e) ≡ x → false ≡ x
       go false z = refl
       go true z =
           let w = leading-less (edgesOf e) (λ (i : ℕ). getD os i 0) (e .width) (suc d) dm (right-leads e os long z) .1 in

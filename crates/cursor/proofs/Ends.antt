@@ -9,12 +9,13 @@ use lib.Seq.{take-all}
 use Rattle.loes.specs.Bytes.{bit, odd, tabulate}
 use Rattle.loes.specs.Keys.{Key, KeySet, members}
 use Rattle.loes.specs.Edges.{recordBits, ones, edges, onesBefore}
+use Rattle.loes.specs.Prefixes.{inhabited, prefixCount, prefixesBefore, recordIndex}
+use Rattle.loes.specs.Cursor.{keyOf}
 use Rattle.loes.proofs.Lists.{length-bits}
 use Rattle.loes.proofs.Bits.{odd-bit}
-use Rattle.loes.proofs.Tree.{inhabited, treeLevel, prefixCount, ones-tree, length-tree, hasPrefix, prefixesBefore, edge-bit, edge-rank, count-one, length-members}
-use Rattle.loes.proofs.Navigation.{recordIndex, nav-bit}
+use Rattle.loes.proofs.Tree.{hasPrefix, treeLevel, ones-tree, length-tree, edge-bit, edge-rank, count-one, length-members}
+use Rattle.loes.proofs.Navigation.{nav-bit}
 use Rattle.loes.proofs.Seven.{before-suc}
-use Rattle.query.specs.Paths.{keyOf}
 use Rattle.query.proofs.Descent.{step-before}
 use Rattle.query.proofs.Paths.{recordAt, Leading, key-length, key-suc, split}
 use Rattle.cursor.specs.Moves.{turns, firstEdge}

@@ -12,14 +12,14 @@ use Rattle.loes.specs.Keys.{Key}
 use Rattle.loes.specs.Entry.{Entry, keyBytes, Valid}
 use Rattle.loes.specs.Refusals.{shortBuffer}
 use Rattle.loes.specs.Cursor as spec
-use Rattle.loes.specs.Cursor.{Cursor, Advanced, isCursorOf, nextIndex, hasNext, nextKey, goesTo, goesToAfter, stays, advance}
+use Rattle.loes.specs.Cursor.{Cursor, cursorWith, Advanced, isCursorOf, nextIndex, hasNext, nextKey, goesTo, goesToAfter, stays, advance}
 use Rattle.loes.proofs.Lists.{rest-is}
 use Rattle.loes.proofs.Tests.{lt-yes, lt-no, yes-lt, no-lt, eq-no}
 use Rattle.loes.proofs.Members.{key-bytes}
-use Rattle.loes.proofs.Cursors.{noOffsets, cursorAt, right-at, right-none, right-parts, advance-on, advance-out}
+use Rattle.loes.proofs.Cursors.{cursorAt, right-at, right-none, right-parts, advance-on, advance-out}
 use Rattle.cursor.proofs.Stepping.{step-short}
 use Rattle.cursor.specs.declared.Walked.{Walked}
-use Rattle.cursor.specs.Steps.{stateOf, at, stepAnswer, walkedOf}
+use Rattle.cursor.specs.Steps.{stateOf, stepAnswer, walkedOf}
 use Rattle.cursor.specs.Filling.{bytesIn, putAt, leaves, goesOn, more, advances}
 
 abbrev bytesBy : Advanced → ℕ
@@ -36,7 +36,7 @@ module _ (e : Entry) (c : Cursor) (r : isCursorOf e c ≡ true) where
   goes-on out h = advance-on e c out (nextIndex e c) r refl (yes-lt _ _ h)
 
   goes-out : (out : Bytes) → hasNext e c ≡ false → advance e c out ≡ goesToAfter out
-  unfolding hasNext goesToAfter noOffsets
+  unfolding hasNext goesToAfter
   goes-out out h = advance-out e c out r (no-lt _ _ h)
 
   goes-short : (out : Bytes) → hasNext e c ≡ true → length out < keyBytes (e .width) → advance e c out ≡ stays shortBuffer c out
@@ -61,7 +61,7 @@ module _ (e : Entry) (c : Cursor) (r : isCursorOf e c ≡ true) where
   next-size h = key-bytes e (nextIndex e c) (yes-lt _ _ h)
 
 after-right : (e : Entry) (out : Bytes) → isCursorOf e (goesToAfter out .cursor) ≡ true
-unfolding goesToAfter noOffsets
+unfolding goesToAfter
 after-right e out = right-none e .1
 
 -- ---- The part of a buffer behind n bytes, lent and handed back
@@ -81,12 +81,12 @@ module _ (n : ℕ) (out : Bytes) (h : n ≤ length out) where
 pub record WalkSoFar (e : Entry) (from : ℕ) (os₀ : List ℕ) (out₀ : Bytes) (os : List ℕ) (out : Bytes) (n : ℕ) : Type 0 where
   pub inside : n ≤ length out
   pub size : length out ≡ length out₀
-  pub right : isCursorOf e (at spec.at os) ≡ true
+  pub right : isCursorOf e (cursorWith spec.at os) ≡ true
   pub fuel : ℕ
   pub enough : length out ≤ fuel + n
-  pub same : goesOn fuel e n out (at spec.at os) ≡ goesOn (length out₀) e from out₀ (at spec.at os₀)
+  pub same : goesOn fuel e n out (cursorWith spec.at os) ≡ goesOn (length out₀) e from out₀ (cursorWith spec.at os₀)
 
-pub walk-start : (e : Entry) (from : ℕ) (os : List ℕ) (out : Bytes) → isCursorOf e (at spec.at os) ≡ true → from ≤ length out → WalkSoFar e from os out os out from
+pub walk-start : (e : Entry) (from : ℕ) (os : List ℕ) (out : Bytes) → isCursorOf e (cursorWith spec.at os) ≡ true → from ≤ length out → WalkSoFar e from os out os out from
 walk-start e from os out r h = record { inside = h; size = refl; right = r; fuel = length out; enough = omega arith; same = refl }
 
 stops : (f : ℕ) (e : Entry) (n : ℕ) (out : Bytes) (c : Cursor) → length out < n + keyBytes (e .width) → leaves n out c ≡ goesOn f e n out c
@@ -96,16 +96,16 @@ stops (suc f) e n out c h = rw (lt-yes _ _ h)
 
 module _ (e : Entry) (from : ℕ) (os₀ : List ℕ) (out₀ : Bytes) (os : List ℕ) (out : Bytes) (n : ℕ) (w : WalkSoFar e from os₀ out₀ os out n) where
   abbrev c : Cursor
-  c = at spec.at os
+  c = cursorWith spec.at os
 
   abbrev part : Bytes
   part = midOf n (length out - n) out
 
   abbrev whole : Advanced
-  whole = goesOn (length out₀) e from out₀ (at spec.at os₀)
+  whole = goesOn (length out₀) e from out₀ (cursorWith spec.at os₀)
 
-  pub walk-levels : isCursorOf e (at spec.at os₀) ≡ true → length os ≡ length os₀
-  walk-levels r = right-parts e c (w .right) .0 ∙ sym (right-parts e (at spec.at os₀) r .0)
+  pub walk-levels : isCursorOf e (cursorWith spec.at os₀) ≡ true → length os ≡ length os₀
+  walk-levels r = right-parts e c (w .right) .0 ∙ sym (right-parts e (cursorWith spec.at os₀) r .0)
 
   -- no room for another key
   pub walk-full : length out - n < keyBytes (e .width) → leaves n out c ≡ whole
@@ -162,13 +162,13 @@ module _ (e : Entry) (from : ℕ) (os₀ : List ℕ) (out₀ : Bytes) (os : List
               rw (k, o, put-key n out (w .inside) (nextKey e c) ys (ap (λ (d : Advanced). d .buffer) a)) (walk-on h)
           go false h = unfold goesToAfter in absurd (z (em ∙ ap bytesBy (left h)))
 
-      pub walk-last : m ≡ 0 → leaves n (putMid n (length out - n) out ys) (at spec.after os') ≡ whole
+      pub walk-last : m ≡ 0 → leaves n (putMid n (length out - n) out ys) (cursorWith spec.after os') ≡ whole
       walk-last z = go (hasNext e c) refl
         where
-          go : (b : Bool) → hasNext e c ≡ b → leaves n (putMid n (length out - n) out ys) (at spec.after os') ≡ whole
+          go : (b : Bool) → hasNext e c ≡ b → leaves n (putMid n (length out - n) out ys) (cursorWith spec.after os') ≡ whole
           go true h = unfold goesTo in absurd (omega (arith, em ∙ ap bytesBy (went h), z, some-bytes e v))
           go false h = unfold goesToAfter in
-              ap (λ (d : Advanced). leaves n (putMid n (length out - n) out (d .buffer)) (at spec.after (d .cursor .offsets))) (left h)
+              ap (λ (d : Advanced). leaves n (putMid n (length out - n) out (d .buffer)) (cursorWith spec.after (d .cursor .offsets))) (left h)
               ∙ ap (λ b. leaves n b (goesToAfter out .cursor)) (put-same n (length out - n) out) ∙ walk-out h
 
 -- ---- The first step of a walk, from any right cursor, which says m bytes
@@ -193,19 +193,19 @@ module _ (e : Entry) (c : Cursor) (r : isCursorOf e c ≡ true) (out : Bytes) (x
     unfolding goesTo
     stands = ap (λ (a : Advanced). a .cursor .state) went-on
 
-    pub walk-begun : Valid e → (isCursorOf e (at spec.at os') ≡ true) × (m ≤ length out')
+    pub walk-begun : Valid e → (isCursorOf e (cursorWith spec.at os') ≡ true) × (m ≤ length out')
     unfolding goesTo front
     walk-begun v =
         let k = packBits (nextKey e c) in (
-          ap (λ (a : Advanced). isCursorOf e (at spec.at (a .cursor .offsets))) went-on ∙ next-right e c r out v (some .0),
+          ap (λ (a : Advanced). isCursorOf e (cursorWith spec.at (a .cursor .offsets))) went-on ∙ next-right e c r out v (some .0),
           omega (arith, em ∙ ap bytesBy went-on, ap (λ (a : Advanced). length (a .buffer)) went-on, length-append k (drop (length k) out), next-size e c r (some .0)),
         )
 
-    pub walk-whole : (a : Advanced) → a ≡ goesOn (length out') e m out' (at spec.at os') → a ≡ advances e c out
+    pub walk-whole : (a : Advanced) → a ≡ goesOn (length out') e m out' (cursorWith spec.at os') → a ≡ advances e c out
     unfolding advances more
     walk-whole a q =
         let k : eqb (bytesIn (stepAnswer (x .answer))) 0 ≡ false = eq-no _ _ (λ y. z (em ∙ y)) in
-        let g : goesOn (length out') e m out' (at spec.at os') ≡ more e (walkedOf x os' out') = rw (k, stands, em) in
+        let g : goesOn (length out') e m out' (cursorWith spec.at os') ≡ more e (walkedOf x os' out') = rw (k, stands, em) in
         q ∙ g ∙ ap (more e) told
 
 -- ---- Steps and walks from a right cursor leave a right one

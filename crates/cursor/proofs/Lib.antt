@@ -7,5 +7,4 @@ pub mod Checks
 pub mod Onward
 pub mod Outset
 pub mod Stepping
-pub mod Walk
 pub mod Filling

@@ -11,12 +11,13 @@ use borrow.Author.Tests.{ne-eqb}
 use Rattle.loes.specs.Bytes.{bit, odd, tabulate}
 use Rattle.loes.specs.Keys.{Key, KeySet, members}
 use Rattle.loes.specs.Edges.{rank, edges}
+use Rattle.loes.specs.Prefixes.{half, inhabited, prefixesBefore, recordsBefore, recordIndex}
+use Rattle.loes.specs.Cursor.{keyOf}
 use Rattle.loes.proofs.Bits.{bit-odd}
 use Rattle.loes.proofs.Tests.{lt-yes, lt-no, eq-yes}
-use Rattle.loes.proofs.Tree.{half, inhabited, hasPrefix, prefixesBefore, bit-le, prefix-whole, members-at}
-use Rattle.loes.proofs.Navigation.{recordsBefore, recordIndex, nav-bit, nav-rank, record-nil}
+use Rattle.loes.proofs.Tree.{hasPrefix, bit-le, prefix-whole, members-at}
+use Rattle.loes.proofs.Navigation.{nav-bit, nav-rank, record-nil}
 use Rattle.loes.proofs.Seven.{before-suc}
-use Rattle.query.specs.Paths.{keyOf}
 use Rattle.query.proofs.Paths.{recordAt, Leading, key-length, key-suc, split}
 use Rattle.cursor.specs.Moves.{turns, firstEdge, behind, movedOn}
 

@@ -14,7 +14,7 @@ use borrow.Author.Tests.{ne-eqb}
 use mir.Val.{Val}
 use denote.Laws.{Is}
 use denote.Struct.Laws as LL
-use Rattle.loes.specs.Keys.{any}
+use Rattle.loes.specs.Keys.{anyOf}
 use Rattle.loes.specs.Cursor.{allZero}
 use Rattle.loes.proofs.Lists.{getD-map-in}
 use Rattle.bits.specs.declared.EdgeOffset.{EdgeOffset}
@@ -71,8 +71,8 @@ or-none (suc a) b =
 
 -- no bit is set in s and in what is left
 pub zeros-more : (l : List ℕ) (i s : ℕ) → i < length l → (eqb s 0 && allZero (drop i l)) ≡ (eqb (bitOr s (getD l i 0)) 0 && allZero (drop (i + 1) l))
-unfolding allZero any
-zeros-more l i s h = rw (add-one i, drop-cons l i 0 h, or-none s (getD l i 0)) (join (eqb s 0) (eqb (getD l i 0) 0) (any (λ (o : ℕ). not (eqb o 0)) (drop (suc i) l)))
+unfolding allZero anyOf
+zeros-more l i s h = rw (add-one i, drop-cons l i 0 h, or-none s (getD l i 0)) (join (eqb s 0) (eqb (getD l i 0) 0) (anyOf (λ (o : ℕ). not (eqb o 0)) (drop (suc i) l)))
   where
     join : (a b c : Bool) → (a && not (not b || c)) ≡ ((a && b) && not c)
     join false b c = refl
@@ -80,7 +80,7 @@ zeros-more l i s h = rw (add-one i, drop-cons l i 0 h, or-none s (getD l i 0)) (
     join true true c = refl
 
 pub zeros-end : (l : List ℕ) (i s : ℕ) → length l ≤ i → eqb s 0 ≡ (eqb s 0 && allZero (drop i l))
-unfolding allZero any
+unfolding allZero anyOf
 zeros-end l i s h = rw (drop-of-length-le l {i = i} h) (all (eqb s 0))
   where
     all : (a : Bool) → a ≡ (a && true)

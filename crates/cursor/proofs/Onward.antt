@@ -8,22 +8,22 @@ use lib.ListN.{length, getD}
 use Rattle.loes.specs.Bytes.{tabulate, front}
 use Rattle.loes.specs.Keys.{Key, members, smaller}
 use Rattle.loes.specs.Edges.{edges}
+use Rattle.loes.specs.Prefixes.{inhabited, prefixesBefore}
 use Rattle.loes.specs.Entry.{Entry, keysOf, count, edgesOf, edgeCount, Valid}
-use Rattle.loes.specs.Cursor.{pathOf}
+use Rattle.loes.specs.Cursor.{pathOf, keyOf, keyOfPath, hasPath}
 use Rattle.loes.proofs.Bytes.{length-tabulate, getD-tabulate}
-use Rattle.loes.proofs.Tree.{inhabited, prefixesBefore, before-smaller, prefix-whole, index-lt}
-use Rattle.query.specs.Paths.{keyOf, pathKey}
+use Rattle.loes.proofs.Tree.{before-smaller, prefix-whole, index-lt}
 use Rattle.query.proofs.BitLists.{set-below}
 use Rattle.query.proofs.Paths.{Leading, key-length, leading-less, lead-some, offsets-are}
 use Rattle.query.proofs.Ascent.{front-by}
-use Rattle.cursor.specs.Moves.{turns, firstEdge, movedOn, TurnsAt, Moved, Movable, hasPath}
+use Rattle.cursor.specs.Moves.{turns, firstEdge, movedOn, TurnsAt, Moved, Movable}
 use Rattle.cursor.proofs.Moves.{path-prefix, moved-below, moved-leads, next-before, next-member}
 use Rattle.cursor.proofs.Ends.{last-member}
 use Rattle.cursor.proofs.Right.{right-leads}
 
 -- the index of the member whose path is in a list of offsets
 unfoldable pub indexIn : Entry → List ℕ → ℕ
-indexIn e os = smaller (pathKey os (e .width)) (keysOf e)
+indexIn e os = smaller (keyOfPath os (e .width)) (keysOf e)
 
 first-room : (e : List Bool) (b c : ℕ) → firstEdge e c < b → 2 * c < b
 unfolding firstEdge
@@ -38,7 +38,7 @@ module _ (e : Entry) (v : Valid e) (os : List ℕ) (long : e .width ≤ length o
   some = lead-some (e .width) (e .set) (λ (i : ℕ). getD os i 0) (v .positive) (lead 1 (v .positive))
 
   index-is : indexIn e os ≡ prefixesBefore (keyOf (λ (i : ℕ). getD os i 0) (e .width)) (e .width) (e .set)
-  unfolding indexIn pathKey keysOf
+  unfolding indexIn keyOfPath keysOf
   index-is = before-smaller (keyOf (λ (i : ℕ). getD os i 0) (e .width)) (e .width) (e .set) (key-length (λ (i : ℕ). getD os i 0) (e .width))
 
   pub set-edges : (j : ℕ) → j < e .width → getD (edgesOf e) (getD os j 0) false ≡ true

@@ -10,13 +10,13 @@ use lib.Seq.{getD-set-same, getD-set-other}
 use Rattle.loes.specs.Bytes.{tabulate, front}
 use Rattle.loes.specs.Keys.{members}
 use Rattle.loes.specs.Edges.{rank, edges}
+use Rattle.loes.specs.Prefixes.{recordsBefore, recordIndex, prefixesBefore}
 use Rattle.loes.specs.Encode.{levelEnd}
-use Rattle.loes.proofs.Navigation.{recordsBefore, recordIndex, length-edgesBefore}
+use Rattle.loes.proofs.Navigation.{length-edgesBefore}
 use Rattle.loes.specs.Entry.{Entry, keysOf, count, edgesOf, edgeCount, Valid}
-use Rattle.loes.specs.Cursor.{pathOf}
+use Rattle.loes.specs.Cursor.{pathOf, keyOf}
 use Rattle.loes.proofs.Bytes.{length-tabulate, getD-tabulate}
-use Rattle.loes.proofs.Tree.{prefixesBefore, prefix-whole, members-at, index-lt}
-use Rattle.query.specs.Paths.{keyOf}
+use Rattle.loes.proofs.Tree.{prefix-whole, members-at, index-lt}
 use Rattle.query.proofs.BitLists.{set-below}
 use Rattle.query.proofs.Levels.{some-key}
 use Rattle.query.proofs.Paths.{recordAt, Leading, key-length, offsets-are}

@@ -1,30 +1,25 @@
 -- The paths of members are the paths that lead.
-use mathlib.Core.Path.{_≡_, refl, sym, ap, _∙_}
-use Prim.Native.Nat.{ℕ, zero, suc, _≤_, _<_}
+use mathlib.Core.Path.{_≡_, sym, ap, _∙_}
+use Prim.Native.Nat.{ℕ, _≤_, _<_}
 use mathlib.Core.Bool.{true}
-use mathlib.Core.List.{List, [], _∷_, _++_}
+use mathlib.Core.List.{List, []}
 use native.Mathlib.Omega.{arith}
 use lib.ListN.{length, take, getD}
-use lib.Seq.{take-suc, take-all}
-use Rattle.loes.proofs.Cursors.{any-at, any-is}
+use lib.Seq.{take-all}
+use Rattle.loes.proofs.Bits.{take-tabulate}
+use Rattle.loes.proofs.Cursors.{anyOf-at, anyOf-is}
 use Rattle.loes.specs.Bytes.{tabulate, sameNumbers}
-use Rattle.loes.specs.Keys.{Key, any, members}
+use Rattle.loes.specs.Keys.{Key, anyOf, members}
 use Rattle.loes.specs.Edges.{edges, edgeOffsets}
+use Rattle.loes.specs.Prefixes.{inhabited, prefixesBefore}
 use Rattle.loes.specs.Entry.{Entry, keysOf, count, edgesOf}
-use Rattle.loes.specs.Cursor.{pathOf}
+use Rattle.loes.specs.Cursor.{pathOf, keyOf}
 use Rattle.loes.proofs.Tests.{same-self, same-is}
 use Rattle.loes.proofs.Members.{inside-at}
 use Rattle.loes.proofs.Bytes.{getD-tabulate}
-use Rattle.loes.proofs.Tree.{inhabited, prefixesBefore, prefix-whole, members-at, index-lt}
-use Rattle.query.specs.Paths.{keyOf}
+use Rattle.loes.proofs.Tree.{prefix-whole, members-at, index-lt}
 use Rattle.query.proofs.Paths.{Leading, key-length, offsets-are, leading-ext, leading-less, ofKey, key-of, member-leads, lead-some}
 use Rattle.cursor.proofs.Moves.{path-prefix}
-
--- the first n of a list, by place
-pub take-tabulate : (l : List ℕ) (n : ℕ) → n ≤ length l → take n l ≡ tabulate (λ (i : ℕ). getD l i 0) n
-unfolding tabulate
-take-tabulate l zero h = refl
-take-tabulate l (suc n) h = take-suc l n 0 h ∙ ap (λ x. x ++ getD l n 0 ∷ []) (take-tabulate l n (omega arith))
 
 -- the key of a place, and its path
 module _ (e : Entry) (os : List ℕ) (pos : 0 < e .width) (long : e .width ≤ length os) (h : Leading (edgesOf e) (e .width) (λ (i : ℕ). getD os i 0)) where
@@ -46,18 +41,18 @@ module _ (e : Entry) (os : List ℕ) (pos : 0 < e .width) (long : e .width ≤ l
   unfolding pathOf edgesOf
   lead-path = offsets-are (edges m (e .set)) g m h .0 ∙ sym (take-tabulate os m long)
 
-  pub lead-right : any (λ (k : Key). sameNumbers (pathOf e k) (take (e .width) os)) (keysOf e) ≡ true
+  pub lead-right : anyOf (λ (k : Key). sameNumbers (pathOf e k) (take (e .width) os)) (keysOf e) ≡ true
   unfolding keysOf
   lead-right =
-      any-at (λ (k : Key). sameNumbers (pathOf e k) (take (e .width) os)) (members m (e .set)) (prefixesBefore (keyOf g m) m (e .set)) []
+      anyOf-at (λ (k : Key). sameNumbers (pathOf e k) (take (e .width) os)) (members m (e .set)) (prefixesBefore (keyOf g m) m (e .set)) []
       (index-lt (keyOf g m) m (e .set) (key-length g m) lead-in)
       (rw (members-at (keyOf g m) m (e .set) (key-length g m) lead-in, lead-path) (same-self (take (e .width) os)))
 
-pub right-leads : (e : Entry) (os : List ℕ) → e .width ≤ length os → any (λ (k : Key). sameNumbers (pathOf e k) (take (e .width) os)) (keysOf e) ≡ true
+pub right-leads : (e : Entry) (os : List ℕ) → e .width ≤ length os → anyOf (λ (k : Key). sameNumbers (pathOf e k) (take (e .width) os)) (keysOf e) ≡ true
     → Leading (edgesOf e) (e .width) (λ (i : ℕ). getD os i 0)
 unfolding edgesOf pathOf count
 right-leads e os long h =
-    let r = any-is (λ (k : Key). sameNumbers (edgeOffsets (edges (e .width) (e .set)) 0 k) (take (e .width) os)) (keysOf e) [] h in
+    let r = anyOf-is (λ (k : Key). sameNumbers (edgeOffsets (edges (e .width) (e .set)) 0 k) (take (e .width) os)) (keysOf e) [] h in
     let k : Key = getD (keysOf e) (r .0) [] in
     let n = inside-at e (r .0) (r .1) in
     let q : edgeOffsets (edges (e .width) (e .set)) 0 k ≡ take (e .width) os = same-is (edgeOffsets (edges (e .width) (e .set)) 0 k) (take (e .width) os) (r .2) in

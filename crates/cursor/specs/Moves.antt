@@ -3,12 +3,9 @@ use mathlib.Core.Path.{_≡_}
 use Prim.Native.Nat.{ℕ, _+_, _-_, _*_, _/_, _≤_, _<_}
 use mathlib.Core.Bool.{Bool, true, false, _&&_, not, cond}
 use mathlib.Core.List.{List}
-use lib.ListN.{getD, length, take}
+use lib.ListN.{getD, length}
 use lib.Dec.{eqb, ltb}
-use Rattle.loes.specs.Bytes.{bit, odd, sameNumbers}
-use Rattle.loes.specs.Keys.{Key, any}
-use Rattle.loes.specs.Entry.{Entry, keysOf}
-use Rattle.loes.specs.Cursor.{pathOf}
+use Rattle.loes.specs.Bytes.{bit, odd}
 
 -- an offset leads on from record r: it is one of the record's two, and set
 unfoldable pub leadsOn : List Bool → ℕ → ℕ → Bool
@@ -52,7 +49,3 @@ pub record Movable (b m t : ℕ) (os : List ℕ) : Type 0 where
   pub room : m ≤ length os
   pub small : getD os t 0 < b
   pub next : (j : ℕ) → t < j → j < m → 2 * (getD os j 0 / 2 + 1) < b
-
--- whether some member's path is in the list
-unfoldable pub hasPath : Entry → List ℕ → Bool
-hasPath e os = any (λ (k : Key). sameNumbers (pathOf e k) (take (e .width) os)) (keysOf e)

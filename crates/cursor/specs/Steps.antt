@@ -8,8 +8,8 @@ use Rattle.bits.specs.declared.EdgeOffset.{EdgeOffset}
 use Rattle.cursor.specs.declared.State.{State}
 use Rattle.cursor.specs.declared.State.the-variants as state
 use Rattle.cursor.specs.declared.Cursor.{Cursor}
-use Rattle.cursor.specs.declared.Step.{Step}
-use Rattle.cursor.specs.declared.Step.the-variants as step
+use Rattle.cursor.specs.declared.StepAnswer.{StepAnswer}
+use Rattle.cursor.specs.declared.StepAnswer.the-variants as step
 use Rattle.cursor.specs.declared.Stepped.{Stepped}
 use Rattle.cursor.specs.declared.Walked.{Walked}
 
@@ -21,22 +21,19 @@ stateOf state.After = spec.after
 unfoldable pub numbers : List EdgeOffset → List ℕ
 numbers os = map (λ (o : EdgeOffset). o .0) os
 
-abbrev pub at : spec.State → List ℕ → spec.Cursor
-at s os = record { state = s; offsets = os }
-
 abbrev pub cursorOf : Cursor → spec.Cursor
-cursorOf c = at (stateOf (c .state)) (numbers (c .offsets))
+cursorOf c = spec.cursorWith (stateOf (c .state)) (numbers (c .offsets))
 
-abbrev pub stepAnswer : Step → Answer
+abbrev pub stepAnswer : StepAnswer → Answer
 stepAnswer (step.Refused k) = refused k
 stepAnswer (step.Wrote n) = wroteKey n
 
 -- after a step over lent offsets: its answer, the output buffer, and the cursor of its state and the offsets
 abbrev pub walkedOf : Walked → List ℕ → Bytes → spec.Advanced
-walkedOf r os out = record { answer = stepAnswer (r .answer); buffer = out; cursor = at (stateOf (r .state)) os }
+walkedOf r os out = record { answer = stepAnswer (r .answer); buffer = out; cursor = spec.cursorWith (stateOf (r .state)) os }
 
 -- after a step of a lent cursor: its answer, the output buffer and the cursor
-abbrev pub advancedOf : Step → Bytes → Cursor → spec.Advanced
+abbrev pub advancedOf : StepAnswer → Bytes → Cursor → spec.Advanced
 advancedOf r out c = record { answer = stepAnswer r; buffer = out; cursor = cursorOf c }
 
 -- the same after a step by value

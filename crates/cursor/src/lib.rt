@@ -9,10 +9,11 @@ ghost use Rattle.loes.specs.Bytes.{front};
 ghost use Rattle.loes.specs.Entry.{keysOf, edgesOf};
 ghost use Rattle.loes.specs.Read.{entryIn};
 ghost use Rattle.loes.specs.Cursor as spec;
+ghost use Rattle.loes.specs.Cursor.{cursorWith, hasPath};
 ghost use Rattle.bits.specs.Tables.{Tallies};
 ghost use Rattle.encoding.specs.Opened.{Opens};
-ghost use Rattle.cursor.specs.Moves.{leadsOn, recordCode, turns, firstEdge, behind, TurnsAt, Moved, Movable, hasPath};
-ghost use Rattle.cursor.specs.Steps.{stateOf, numbers, at, cursorOf, stepAnswer, walkedOf, advancedOf, steppedOf};
+ghost use Rattle.cursor.specs.Moves.{leadsOn, recordCode, turns, firstEdge, behind, TurnsAt, Moved, Movable};
+ghost use Rattle.cursor.specs.Steps.{stateOf, numbers, cursorOf, stepAnswer, walkedOf, advancedOf, steppedOf};
 ghost use Rattle.cursor.specs.Filling.{bytesIn, goesOn, advances};
 use bits::EdgeOffset;
 use bits::RecordIndex;
@@ -36,21 +37,21 @@ pub struct Cursor {
 impl Cursor {
     // Before the first member.
     pub fn before() -> Cursor
-        ensures { λ r. ⌜ cursorOf r ≡ at spec.before (replicate maxWidth 0) ⌝ }
+        ensures { λ r. ⌜ cursorOf r ≡ cursorWith spec.before (replicate maxWidth 0) ⌝ }
     {
         Cursor::of(State::Before, [EdgeOffset(0); Encoding::MAX_WIDTH])
     }
 
     // In a state, with a path's offsets.
     pub fn of(state: State, offsets: [EdgeOffset; Encoding::MAX_WIDTH]) -> Cursor
-        ensures { λ r. ⌜ cursorOf r ≡ at (stateOf state) (numbers offsets) ⌝ }
+        ensures { λ r. ⌜ cursorOf r ≡ cursorWith (stateOf state) (numbers offsets) ⌝ }
     {
         Cursor { state, offsets }
     }
 }
 
 // A cursor's offsets as numbers.
-fn path_of(c: Cursor) -> [usize; Encoding::MAX_WIDTH]
+fn numbers_of(c: Cursor) -> [usize; Encoding::MAX_WIDTH]
     ensures { λ r. ⌜ r ≡ numbers (c .offsets) ⌝ }
 {
     let offsets = c.offsets;
@@ -78,7 +79,7 @@ fn offsets_of(path: [usize; Encoding::MAX_WIDTH]) -> [EdgeOffset; Encoding::MAX_
 }
 
 // What a step returns: a refusal, or the bytes of the key that it wrote; 0 if it went to after.
-pub enum Step {
+pub enum StepAnswer {
     Refused(u8),
     Wrote(usize),
 }
@@ -86,12 +87,12 @@ pub enum Step {
 // A step by value: the cursor that it leaves, and what it returns.
 pub struct Stepped {
     pub cursor: Cursor,
-    pub answer: Step,
+    pub answer: StepAnswer,
 }
 
 // A step over lent offsets: what it returns, and the state that it leaves.
 pub struct Walked {
-    pub answer: Step,
+    pub answer: StepAnswer,
     pub state: State,
 }
 
@@ -147,7 +148,7 @@ fn zeros_from(path: &[usize], from: usize) -> bool
 // Whether offsets are a member's path with zeros behind it.
 fn at_member(l: &[u8], t: &[u8], e: Encoding, path: &[usize]) -> bool
     requires { ⌜ Opens (now l) e × Tallies (now t) × (e .width ≤ length (now path)) ⌝ }
-    ensures { λ r. ⌜ r ≡ spec.offsetsRight (entryIn (now (l .entry))) (at spec.at (now (path .entry))) ⌝ }
+    ensures { λ r. ⌜ r ≡ spec.offsetsRight (entryIn (now (l .entry))) (cursorWith spec.at (now (path .entry))) ⌝ }
 {
     if is_path(l, t, e, path) {
         return zeros_from(path, e.width);
@@ -158,7 +159,7 @@ fn at_member(l: &[u8], t: &[u8], e: Encoding, path: &[usize]) -> bool
 // Whether a state and offsets are a cursor of this encoding: 256 of them, a member's path or zeros alone.
 fn is_cursor(l: &[u8], t: &[u8], e: Encoding, s: State, path: &[usize]) -> bool
     requires { ⌜ Opens (now l) e × Tallies (now t) ⌝ }
-    ensures { λ r. ⌜ r ≡ spec.isCursorOf (entryIn (now (l .entry))) (at (stateOf s) (now (path .entry))) ⌝ }
+    ensures { λ r. ⌜ r ≡ spec.isCursorOf (entryIn (now (l .entry))) (cursorWith (stateOf s) (now (path .entry))) ⌝ }
 {
     if path.len() != Encoding::MAX_WIDTH {
         return false;
@@ -237,8 +238,8 @@ fn move_on(l: &[u8], e: Encoding, t: usize, path: &mut [usize])
     while d < m {
         let q = path[d];
         let x = next_offset(l, e, t, d, EdgeOffset(q));
-        let o = x.0;
-        path[d] = o;
+        let next = x.0;
+        path[d] = next;
         d += 1;
     }
 }
@@ -275,28 +276,29 @@ fn clear(path: &mut [usize])
 // ---- The step, behind the check, over lent offsets
 // From a member's path: the turn is found first, and nothing moves before the buffer is known to fit.
 fn step_at(l: &[u8], e: Encoding, path: &mut [usize], out: &mut [u8]) -> Walked
-    requires { ⌜ Opens (now l) e × (spec.isCursorOf (entryIn (now l)) (at spec.at (now path)) ≡ true) ⌝ }
-    ensures { λ r. ⌜ walkedOf r (now (path .exit)) (now (out .exit)) ≡ spec.advance (entryIn (now (l .entry))) (at spec.at (now (path .entry))) (now (out .entry)) ⌝ }
+    requires { ⌜ Opens (now l) e × (spec.isCursorOf (entryIn (now l)) (cursorWith spec.at (now path)) ≡ true) ⌝ }
+    ensures { λ r. ⌜ walkedOf r (now (path .exit)) (now (out .exit)) ≡ spec.advance (entryIn (now (l .entry))) (cursorWith spec.at (now (path .entry))) (now (out .entry)) ⌝ }
 {
     let level = turn_level(l, e, path);
     if level == 0 {
         clear(path);
+        let nothing = StepAnswer::Wrote(0);
         return Walked {
-            answer: Step::Wrote(0),
+            answer: nothing,
             state: State::After,
         };
     }
     let m = e.width;
-    if out.len() < (m + 7) / 8 {
+    if out.len() < bits::bytes_for(m) {
         return Walked {
-            answer: Step::Refused(SHORT_BUFFER),
+            answer: StepAnswer::Refused(SHORT_BUFFER),
             state: State::At,
         };
     }
     move_on(l, e, level - 1, path);
     let n = query::write_key(path, m, out);
     Walked {
-        answer: Step::Wrote(n),
+        answer: StepAnswer::Wrote(n),
         state: State::At,
     }
 }
@@ -304,39 +306,39 @@ fn step_at(l: &[u8], e: Encoding, path: &mut [usize], out: &mut [u8]) -> Walked
 // From before the first member.
 fn step_before(l: &[u8], e: Encoding, path: &mut [usize], out: &mut [u8]) -> Walked
     requires { ⌜ Opens (now l) e × (now path ≡ replicate maxWidth 0) ⌝ }
-    ensures { λ r. ⌜ walkedOf r (now (path .exit)) (now (out .exit)) ≡ spec.advance (entryIn (now (l .entry))) (at spec.before (now (path .entry))) (now (out .entry)) ⌝ }
+    ensures { λ r. ⌜ walkedOf r (now (path .exit)) (now (out .exit)) ≡ spec.advance (entryIn (now (l .entry))) (cursorWith spec.before (now (path .entry))) (now (out .entry)) ⌝ }
 {
     if e.bits == 0 {
         return Walked {
-            answer: Step::Wrote(0),
+            answer: StepAnswer::Wrote(0),
             state: State::After,
         };
     }
     let m = e.width;
-    if out.len() < (m + 7) / 8 {
+    if out.len() < bits::bytes_for(m) {
         return Walked {
-            answer: Step::Refused(SHORT_BUFFER),
+            answer: StepAnswer::Refused(SHORT_BUFFER),
             state: State::Before,
         };
     }
     first_path(l, e, path);
     let n = query::write_key(path, m, out);
     Walked {
-        answer: Step::Wrote(n),
+        answer: StepAnswer::Wrote(n),
         state: State::At,
     }
 }
 
 // From a right cursor, as a step that was not refused 15 leaves it: only 14 is tested.
 pub fn step_right(l: &[u8], e: Encoding, s: State, path: &mut [usize], out: &mut [u8]) -> Walked
-    requires { ⌜ Opens (now l) e × (spec.isCursorOf (entryIn (now l)) (at (stateOf s) (now path)) ≡ true) ⌝ }
-    ensures { λ r. ⌜ walkedOf r (now (path .exit)) (now (out .exit)) ≡ spec.advance (entryIn (now (l .entry))) (at (stateOf s) (now (path .entry))) (now (out .entry)) ⌝ }
+    requires { ⌜ Opens (now l) e × (spec.isCursorOf (entryIn (now l)) (cursorWith (stateOf s) (now path)) ≡ true) ⌝ }
+    ensures { λ r. ⌜ walkedOf r (now (path .exit)) (now (out .exit)) ≡ spec.advance (entryIn (now (l .entry))) (cursorWith (stateOf s) (now (path .entry))) (now (out .entry)) ⌝ }
 {
     match s {
         State::At => step_at(l, e, path, out),
         State::Before => step_before(l, e, path, out),
         State::After => Walked {
-            answer: Step::Wrote(0),
+            answer: StepAnswer::Wrote(0),
             state: State::After,
         },
     }
@@ -344,21 +346,21 @@ pub fn step_right(l: &[u8], e: Encoding, s: State, path: &mut [usize], out: &mut
 
 // ---- A walk in one call, behind the check
 // The bytes that a step wrote: none if it was refused.
-fn bytes_of(answer: Step) -> usize
+fn bytes_of(answer: StepAnswer) -> usize
     ensures { λ r. ⌜ r ≡ bytesIn (stepAnswer answer) ⌝ }
 {
     match answer {
-        Step::Refused(_) => 0,
-        Step::Wrote(n) => n,
+        StepAnswer::Refused(_) => 0,
+        StepAnswer::Wrote(n) => n,
     }
 }
 
 // Goes on from a member's path while the buffer has room for a key behind byte `from`, each key behind the one before.
 fn steps_on(l: &[u8], e: Encoding, path: &mut [usize], from: usize, out: &mut [u8]) -> Walked
-    requires { ⌜ Opens (now l) e × (spec.isCursorOf (entryIn (now l)) (at spec.at (now path)) ≡ true) × (from ≤ length (now out)) ⌝ }
-    ensures { λ r. ⌜ walkedOf r (now (path .exit)) (now (out .exit)) ≡ goesOn (length (now (out .entry))) (entryIn (now (l .entry))) from (now (out .entry)) (at spec.at (now (path .entry))) ⌝ }
+    requires { ⌜ Opens (now l) e × (spec.isCursorOf (entryIn (now l)) (cursorWith spec.at (now path)) ≡ true) × (from ≤ length (now out)) ⌝ }
+    ensures { λ r. ⌜ walkedOf r (now (path .exit)) (now (out .exit)) ≡ goesOn (length (now (out .entry))) (entryIn (now (l .entry))) from (now (out .entry)) (cursorWith spec.at (now (path .entry))) ⌝ }
 {
-    let t = (e.width + 7) / 8;
+    let t = bits::bytes_for(e.width);
     let mut at = from;
     while t <= out.len() - at {
         let w = step_right(l, e, State::At, path, &mut out[at..]);
@@ -366,22 +368,22 @@ fn steps_on(l: &[u8], e: Encoding, path: &mut [usize], from: usize, out: &mut [u
         let n = bytes_of(answer);
         if n == 0 {
             return Walked {
-                answer: Step::Wrote(at),
+                answer: StepAnswer::Wrote(at),
                 state: State::After,
             };
         }
         at += n;
     }
     Walked {
-        answer: Step::Wrote(at),
+        answer: StepAnswer::Wrote(at),
         state: State::At,
     }
 }
 
 // From a right cursor: a step, and if it wrote a key, as many more as the buffer has room for.
 pub fn walk_right(l: &[u8], e: Encoding, s: State, path: &mut [usize], out: &mut [u8]) -> Walked
-    requires { ⌜ Opens (now l) e × (spec.isCursorOf (entryIn (now l)) (at (stateOf s) (now path)) ≡ true) ⌝ }
-    ensures { λ r. ⌜ walkedOf r (now (path .exit)) (now (out .exit)) ≡ advances (entryIn (now (l .entry))) (at (stateOf s) (now (path .entry))) (now (out .entry)) ⌝ }
+    requires { ⌜ Opens (now l) e × (spec.isCursorOf (entryIn (now l)) (cursorWith (stateOf s) (now path)) ≡ true) ⌝ }
+    ensures { λ r. ⌜ walkedOf r (now (path .exit)) (now (out .exit)) ≡ advances (entryIn (now (l .entry))) (cursorWith (stateOf s) (now (path .entry))) (now (out .entry)) ⌝ }
 {
     let w = step_right(l, e, s, path, out);
     let answer = w.answer;
@@ -402,13 +404,13 @@ pub fn step_any(
     out: &mut [u8],
 ) -> Walked
     requires { ⌜ Opens (now l) e × Tallies (now t) ⌝ }
-    ensures { λ r. ⌜ walkedOf r (now (path .exit)) (now (out .exit)) ≡ spec.advance (entryIn (now (l .entry))) (at (stateOf s) (now (path .entry))) (now (out .entry)) ⌝ }
+    ensures { λ r. ⌜ walkedOf r (now (path .exit)) (now (out .exit)) ≡ spec.advance (entryIn (now (l .entry))) (cursorWith (stateOf s) (now (path .entry))) (now (out .entry)) ⌝ }
 {
     if is_cursor(l, t, e, s, path) {
         return step_right(l, e, s, path, out);
     }
     Walked {
-        answer: Step::Refused(BAD_CURSOR),
+        answer: StepAnswer::Refused(BAD_CURSOR),
         state: s,
     }
 }
@@ -418,7 +420,7 @@ pub fn advanced(l: &[u8], t: &[u8], e: Encoding, c: Cursor, out: &mut [u8]) -> S
     requires { ⌜ Opens (now l) e × Tallies (now t) ⌝ }
     ensures { λ r. ⌜ steppedOf r (now (out .exit)) ≡ spec.advance (entryIn (now (l .entry))) (cursorOf c) (now (out .entry)) ⌝ }
 {
-    let mut path = path_of(c);
+    let mut path = numbers_of(c);
     let from = c.state;
     let walked = step_any(l, t, e, from, &mut path, out);
     let answer = walked.answer;
@@ -431,7 +433,7 @@ pub fn advanced(l: &[u8], t: &[u8], e: Encoding, c: Cursor, out: &mut [u8]) -> S
 }
 
 // The same of a cursor that is lent to the step, for a caller who opened once (document 01: the place is lent to the step).
-pub fn advance(l: &[u8], t: &[u8], e: Encoding, cursor: &mut Cursor, out: &mut [u8]) -> Step
+pub fn advance(l: &[u8], t: &[u8], e: Encoding, cursor: &mut Cursor, out: &mut [u8]) -> StepAnswer
     requires { ⌜ Opens (now l) e × Tallies (now t) ⌝ }
     ensures { λ r. ⌜ advancedOf r (now (out .exit)) (now (cursor .exit)) ≡ spec.advance (entryIn (now (l .entry))) (cursorOf (now (cursor .entry))) (now (out .entry)) ⌝ }
 {

@@ -7,19 +7,20 @@ use mathlib.Core.List.{List, [], _∷_}
 use native.Mathlib.Omega.{arith}
 use lib.ListN.{length, take, drop, getD, length-drop, take-append-drop}
 use lib.Dec.{eqb}
-use Rattle.loes.specs.Limits.{blockBits, subBlockBits}
+use Rattle.loes.specs.Limits.{blockBits, subBlockBits, countBytes}
 use Rattle.loes.specs.Bytes.{Bytes, started, numberAt, bitsIn, packBits, sameNumbers}
 use Rattle.loes.specs.Keys.{KeySet}
 use Rattle.loes.specs.Edges.{ones, edges}
+use Rattle.loes.specs.Prefixes.{prefixCount, recordsBefore, roots, ends}
 use Rattle.loes.specs.Entry.{Entry, keysOf, count, edgesOf, edgeCount}
 use Rattle.loes.specs.Encode.{blockOnes, subBlockOnes, levelEnd, edgeBody, encode}
-use Rattle.loes.specs.Read.{start2, start3, start4, widthIn, edgeCountIn, edgesIn, followed, entryIn}
+use Rattle.loes.specs.Read.{bodyAt, start2, start4, widthIn, levelAt, blockAt, subBlockAt, edgeCountIn, edgesIn, entryAlong, entryIn}
 use Rattle.loes.proofs.Tests.{eq-yes, yes-eq, both, same-self, same-is}
-use Rattle.loes.proofs.Tree.{prefixCount, length-members}
-use Rattle.loes.proofs.Navigation.{recordsBefore, ones-edgesBefore, length-edgesBefore}
+use Rattle.loes.proofs.Tree.{length-members}
+use Rattle.loes.proofs.Navigation.{ones-edgesBefore, length-edgesBefore}
 use Rattle.loes.proofs.Forest.{NoEmpty}
 use Rattle.loes.proofs.WellFormed.{recordsIn}
-use Rattle.loes.proofs.Ends.{roots, ends, ends-set, roots-set, full-set, follows-itself}
+use Rattle.loes.proofs.Ends.{ends-set, roots-set, full-set, follows-itself}
 use Rattle.loes.proofs.Bytes.{length-packed}
 use Rattle.loes.proofs.Bits.{bits-packed, length-bitsIn}
 use Rattle.loes.proofs.Numbers.{AllBytes, bytes-drop}
@@ -30,7 +31,7 @@ use Rattle.bits.proofs.Counts.{ones-more}
 use Rattle.bits.proofs.Records.{full-more}
 use Rattle.bits.proofs.Packed.{packs, packs-clear}
 use Rattle.encoding.specs.declared.Encoding.{Encoding}
-use Rattle.encoding.specs.Opened.{Placed, edgesAt, Room, Counted, Opens}
+use Rattle.encoding.specs.Opened.{Placed, edgesAt, FieldsFit, Counted, Opens}
 use Rattle.encoding.specs.Fields.{Fields}
 use Rattle.encoding.specs.Agree.{WholeRight, lastEdges, LastRight, Levelled}
 use Rattle.encoding.proofs.Opened.{placed-room, started-lt, counted-by}
@@ -83,7 +84,7 @@ module _ (l : Bytes) (e : Encoding) (f : Fields l e) where
   fields-passed : Passed l
   fields-passed = passed l (f .head) (f .tail)
 
-  pub fields-room : Room l e
+  pub fields-room : FieldsFit l e
   fields-room =
       let h = head-facts l (f .head) in
       placed-room l (widthIn l) _ (edgeCountIn l) e (h .1) (h .2) (f .placed) (fields-passed .ends)
@@ -92,7 +93,7 @@ module _ (l : Bytes) (e : Encoding) (f : Fields l e) where
   positive = head-facts l (f .head) .0
 
   wide : 0 < entryIn l .width
-  unfolding entryIn followed
+  unfolding entryIn entryAlong
   wide = positive
 
   at-edges : edgesAt l e ≡ edgesIn l
@@ -103,12 +104,12 @@ module _ (l : Bytes) (e : Encoding) (f : Fields l e) where
   unfolding edgesIn
   length-edges = length-bitsIn _ (edgeCountIn l)
 
-  levels-in : Levelled l e → (d : ℕ) → d < widthIn l → numberAt 4 l (start3 + 3 + 4 * d) ≡ ends (roots (edgeCountIn l)) (edgesIn l) (suc d)
+  levels-in : Levelled l e → (d : ℕ) → d < widthIn l → levelAt l d ≡ ends (roots (edgeCountIn l)) (edgesIn l) (suc d)
   levels-in r d h = r d (rw (f .placed .width) h) ∙ ap₂ (λ b x. ends (roots b) x (suc d)) (f .placed .bits) at-edges
 
   -- where the code finds nothing wrong the edges are those of the entry
   right-edges : Right l e → edgesOf (entryIn l) ≡ edgesIn l
-  unfolding edgesOf entryIn followed edgeCountIn
+  unfolding edgesOf entryIn entryAlong edgeCountIn
   right-edges r =
       let z : suc (widthIn l - 1) ≡ widthIn l = omega (arith, positive) in
       let n : NoEmpty (recordsIn (edgesIn l)) = none-yes (edgesIn l) (rw at-edges at (r .full)) in
@@ -117,10 +118,10 @@ module _ (l : Bytes) (e : Encoding) (f : Fields l e) where
 
   -- and so they are where the numbers agree
   agree-edges : Agrees l (entryIn l) → edgesOf (entryIn l) ≡ edgesIn l
-  unfolding edgesIn edgeBody edgeCount entryIn followed
+  unfolding edgesIn edgeBody edgeCount entryIn entryAlong
   agree-edges g =
       let x : List Bool = edgesOf (entryIn l) in
-      let y : Bytes = drop (start4 (widthIn l) + 3) l in
+      let y : Bytes = drop (bodyAt (start4 (widthIn l))) l in
       let k : ℕ = started 8 (length x) in
       let t : take k y ≡ packBits x = g .edges in
       let n : length (take k y) ≡ k = ap length t ∙ length-packed x in
@@ -145,10 +146,10 @@ module _ (l : Bytes) (e : Encoding) (f : Fields l e) where
 
     level-is : (d : ℕ) → d < widthIn l → levelEnd (entryIn l) d ≡ ends (roots (edgeCountIn l)) (edgesIn l) (suc d)
     level-is d h =
-        entry-level (entryIn l) wide d (unfold entryIn followed in h) ∙ ap₂ (λ b x. ends (roots b) x (suc d)) bits-are q
+        entry-level (entryIn l) wide d (unfold entryIn entryAlong in h) ∙ ap₂ (λ b x. ends (roots b) x (suc d)) bits-are q
 
-    placed : Placed (entryIn l .width) (numberAt 4 l (start2 + 3)) (edgeCount (entryIn l)) e
-    unfolding entryIn followed
+    placed : Placed (entryIn l .width) (numberAt countBytes l (bodyAt start2)) (edgeCount (entryIn l)) e
+    unfolding entryIn entryAlong
     placed = rw bits-are (f .placed)
 
     edges-at : edgesAt l e ≡ edgesOf (entryIn l)
@@ -156,11 +157,11 @@ module _ (l : Bytes) (e : Encoding) (f : Fields l e) where
 
     -- the edge bytes are what the edges pack to
     packed-edges : packBits (edgesAt l e) ≡ take (started 8 (e .bits)) (drop (e .edges) l)
-        → take (started 8 (edgeCount (entryIn l))) (drop (start4 (entryIn l .width) + 3) l) ≡ edgeBody (entryIn l)
+        → take (started 8 (edgeCount (entryIn l))) (drop (bodyAt (start4 (entryIn l .width))) l) ≡ edgeBody (entryIn l)
     unfolding edgeBody
     packed-edges k = rw (← placed .bits, ← placed .edges, ← edges-at) (sym k)
 
-    edges-packed : take (started 8 (edgeCount (entryIn l))) (drop (start4 (entryIn l .width) + 3) l) ≡ edgeBody (entryIn l)
+    edges-packed : take (started 8 (edgeCount (entryIn l))) (drop (bodyAt (start4 (entryIn l .width))) l) ≡ edgeBody (entryIn l)
         → packBits (edgesAt l e) ≡ take (started 8 (e .bits)) (drop (e .edges) l)
     unfolding edgeBody
     edges-packed k = rw (edges-at, placed .bits, placed .edges) (sym k)
@@ -173,7 +174,7 @@ module _ (l : Bytes) (e : Encoding) (f : Fields l e) where
   bytes-room = omega (arith, length-drop (e .edges) l, fields-room .edges)
 
   right-agrees : AllBytes l → Right l e → Agrees l (entryIn l)
-  unfolding edgesAt entryIn followed
+  unfolding edgesAt entryIn entryAlong
   right-agrees ok r =
       let q : edgesOf (entryIn l) ≡ edgesIn l = right-edges r in
       let p = placed q in
@@ -183,15 +184,15 @@ module _ (l : Bytes) (e : Encoding) (f : Fields l e) where
         levels = λ d h. levels-in (r .levels) d h ∙ sym (level-is q d h);
         edges = packed-edges q (packs (drop (e .edges) l) (e .bits) (bytes-drop (e .edges) l ok) bytes-room (r .clear));
         blocks = λ j h.
-            ap (λ i. numberAt 8 l (i + 8 * j)) (sym (p .blocks)) ∙ r .counted .blocks j (rw (p .bits) (started-lt blockBits (edgeCount (entryIn l)) j (omega arith) h))
+            ap (λ i. blockAt l i j) (sym (p .blocks)) ∙ r .counted .blocks j (rw (p .bits) (started-lt blockBits (edgeCount (entryIn l)) j (omega arith) h))
             ∙ ap (λ z. blockOnes z j) (edges-at q);
         subBlocks = λ j h.
-            ap (λ i. numberAt 2 l (i + 2 * j)) (sym (p .sub-blocks)) ∙ r .counted .sub-blocks j (rw (p .bits) (started-lt subBlockBits (edgeCount (entryIn l)) j (omega arith) h))
+            ap (λ i. subBlockAt l i j) (sym (p .sub-blocks)) ∙ r .counted .sub-blocks j (rw (p .bits) (started-lt subBlockBits (edgeCount (entryIn l)) j (omega arith) h))
             ∙ ap (λ z. subBlockOnes z j) (edges-at q);
       }
 
   agrees-right : AllBytes l → Agrees l (entryIn l) → Right l e
-  unfolding edgesAt entryIn followed
+  unfolding edgesAt entryIn entryAlong
   agrees-right ok g =
       let q : edgesOf (entryIn l) ≡ edgesIn l = agree-edges g in
       record {

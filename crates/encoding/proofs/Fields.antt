@@ -2,14 +2,14 @@
 use mathlib.Core.Path.{_≡_, refl, sym, ap, _∙_}
 use Prim.Native.Nat.{ℕ, zero, suc, _≤_, _<_}
 use mathlib.Core.Bool.{Bool, true, false, _&&_, cond, not, or-true}
-use mathlib.Core.List.{List, [], _∷_}
+use mathlib.Core.List.{List, [], _∷_, flatten}
 use mathlib.Core.Option.{Option, none, some}
 use native.Mathlib.Omega.{arith}
 use lib.ListN.{length}
 use lib.Dec.{ltb}
 use Rattle.loes.specs.Refusals.{Tests, test, firstOf}
-use Rattle.loes.specs.Limits.{maxWidth, maxEdges}
-use Rattle.loes.specs.Bytes.{Bytes, join, sameNumbers}
+use Rattle.loes.specs.Limits.{maxWidth, maxEdges, countBytes}
+use Rattle.loes.specs.Bytes.{Bytes, sameNumbers}
 use Rattle.loes.specs.Entry.{wrongWidth, tooManyEdges}
 use Rattle.loes.specs.Encode.{encode}
 use Rattle.loes.specs.Read.{levelBytes, start2, start3, start4, widthIn, edgeCountIn, entryIn, fieldTests, headTests, tailTests, readTests, rejected, opened, readingOf, read}
@@ -48,23 +48,23 @@ some-of zero h = absurd (h refl)
 some-of (suc k) h = refl
 
 -- the first part refuses
-pub stops : (k : ℕ) (a : Tests) (rest : List Tests) → firstOf a ≡ some k → some k ≡ firstOf (join (a ∷ rest))
-unfolding join
-stops k a rest e = sym (some-first a (join rest) k e)
+pub stops : (k : ℕ) (a : Tests) (rest : List Tests) → firstOf a ≡ some k → some k ≡ firstOf (flatten (a ∷ rest))
+unfolding flatten
+stops k a rest e = sym (some-first a (flatten rest) k e)
 
-pub refuses : (k : ℕ) (a : Tests) (rest : List Tests) → (k ≡ 0 → ⊥) → refusalOf k ≡ firstOf a → refusalOf k ≡ firstOf (join (a ∷ rest))
+pub refuses : (k : ℕ) (a : Tests) (rest : List Tests) → (k ≡ 0 → ⊥) → refusalOf k ≡ firstOf a → refusalOf k ≡ firstOf (flatten (a ∷ rest))
 refuses k a rest h e = some-of k h ∙ stops k a rest (sym e ∙ some-of k h)
 
 -- the first part passes
-pub passes : {x : Option ℕ} (a : Tests) (rest : List Tests) → firstOf a ≡ none → x ≡ firstOf (join rest) → x ≡ firstOf (join (a ∷ rest))
-unfolding join
-passes a rest e h = h ∙ sym (none-first a (join rest) e)
+pub passes : {x : Option ℕ} (a : Tests) (rest : List Tests) → firstOf a ≡ none → x ≡ firstOf (flatten rest) → x ≡ firstOf (flatten (a ∷ rest))
+unfolding flatten
+passes a rest e h = h ∙ sym (none-first a (flatten rest) e)
 
 pub passed-by : (k : ℕ) (a : Tests) → refusalOf k ≡ firstOf a → k ≡ 0 → firstOf a ≡ none
 passed-by k a e z = sym e ∙ ap refusalOf z
 
-pub all-passed : none ≡ firstOf (join [])
-unfolding join firstOf
+pub all-passed : none ≡ firstOf (flatten [])
+unfolding flatten firstOf
 all-passed = refl
 
 -- one test
@@ -92,12 +92,12 @@ width-right m p h = rw (lt-no m 1 (omega arith), lt-no maxWidth m h)
 -- fields 1 to 3 are in order
 pub head-facts : (l : Bytes) → firstOf (headTests l) ≡ none
     → (0 < widthIn l) × (widthIn l ≤ maxWidth) × (edgeCountIn l ≤ maxEdges) × (start4 (widthIn l) ≤ length l)
-unfolding headTests join wrongWidth tooManyEdges start4
+unfolding headTests flatten wrongWidth tooManyEdges start4
 head-facts l h =
     let m : ℕ = widthIn l in
     let a = none-test (wrongWidth m) _ _ (none-append (fieldTests 1 2 l 0) _ h .1) in
     let w = neither (ltb m 1) (ltb maxWidth m) (a .0) in
-    let c = none-append (fieldTests 3 (levelBytes m) l start3) _ (none-append (fieldTests 2 4 l start2) _ (a .1) .1) in (
+    let c = none-append (fieldTests 3 (levelBytes m) l start3) _ (none-append (fieldTests 2 countBytes l start2) _ (a .1) .1) in (
       no-lt m 1 (w .0),
       no-lt maxWidth m (w .1),
       no-lt maxEdges (edgeCountIn l) (none-test (tooManyEdges (edgeCountIn l)) _ _ (c .1) .0),

@@ -8,7 +8,7 @@ use native.Mathlib.Decide.{decLe}
 use lib.ListN.{length}
 use lib.Seq.{take-all}
 use Rattle.loes.specs.Edges.{ones, onesBefore}
-use Rattle.loes.proofs.Ends.{roots, ends}
+use Rattle.loes.specs.Prefixes.{roots, ends}
 use Rattle.loes.proofs.Seven.{before-le}
 
 -- the end of level d, and the set bits before it

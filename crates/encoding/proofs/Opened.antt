@@ -5,19 +5,19 @@ use mathlib.Core.Bool.{false}
 use native.Mathlib.Omega.{arith}
 use native.Mathlib.Nat.{le-div-iff-mul-le, mul-comm, suc-mul}
 use lib.ListN.{length, drop, getD, length-drop}
-use Rattle.loes.specs.Limits.{maxWidth, maxEdges, blockBits, subBlockBits}
-use Rattle.loes.specs.Bytes.{Bytes, started, numberAt, bitAt, bitsIn}
+use Rattle.loes.specs.Limits.{maxWidth, maxEdges, blockBits, subBlockBits, blockEntry, subBlockEntry}
+use Rattle.loes.specs.Bytes.{Bytes, started, bitAt, bitsIn}
 use Rattle.loes.specs.Entry.{Entry, edgesOf, edgeCount, Valid}
 use Rattle.loes.specs.Encode.{blockOnes, subBlockOnes, levelEnd, encode}
-use Rattle.loes.specs.Read.{start3, start4, start5, start6, endOf, edgesIn, followed, entryIn}
-use Rattle.loes.specs.Held.{held, Holds}
+use Rattle.loes.specs.Read.{start4, start5, start6, endOf, levelAt, blockAt, subBlockAt, edgesIn, entryAlong, entryIn}
+use Rattle.loes.specs.Held.{entryHeld, Holds}
 use Rattle.loes.proofs.Lent.{end-most}
 use Rattle.loes.proofs.Bytes.{getD-tabulate}
 use Rattle.loes.proofs.Reading.{reads-exactly, encode-length, edges-read}
 use Rattle.loes.proofs.Seven.{Agrees, encode-agrees}
 use Rattle.loes.proofs.Bits.{length-bitsIn}
 use Rattle.encoding.specs.declared.Encoding.{Encoding}
-use Rattle.encoding.specs.Opened.{Opens, Placed, Room, Counted, edgesAt}
+use Rattle.encoding.specs.Opened.{Opens, Placed, FieldsFit, Counted, edgesAt}
 
 -- ---- Where the fields lie
 -- an encoding of at most so many bytes
@@ -32,7 +32,7 @@ placed-self m n b e p =
       sub-blocks = rw (p .width, p .bits) (p .sub-blocks);
     }
 
-pub placed-room : (l : Bytes) (m n b : ℕ) (e : Encoding) → m ≤ maxWidth → b ≤ maxEdges → Placed m n b e → length l ≡ endOf m b → Room l e
+pub placed-room : (l : Bytes) (m n b : ℕ) (e : Encoding) → m ≤ maxWidth → b ≤ maxEdges → Placed m n b e → length l ≡ endOf m b → FieldsFit l e
 unfolding endOf start6 start5 start4
 placed-room l m n b e h k p q =
     record {
@@ -57,8 +57,8 @@ unfolding started
 lt-started size n j p h = le-div-iff-mul-le p .1 (omega (arith, mul-comm size j, suc-mul j size))
 
 -- the byte, the block entry and the sub-block entry of an offset lie in the bytes
-pub room-at : (l : Bytes) (e : Encoding) (o : ℕ) → Room l e → o < e .bits
-    → (e .edges + o / 8 < length l) × (e .blocks + 8 * (o / blockBits) + 8 ≤ length l) × (e .«sub_blocks» + 2 * (o / subBlockBits) + 2 ≤ length l)
+pub room-at : (l : Bytes) (e : Encoding) (o : ℕ) → FieldsFit l e → o < e .bits
+    → (e .edges + o / 8 < length l) × (e .blocks + blockEntry * (o / blockBits) + blockEntry ≤ length l) × (e .«sub_blocks» + subBlockEntry * (o / subBlockBits) + subBlockEntry ≤ length l)
 unfolding started
 room-at l e o r h = (omega (arith, r .edges), omega (arith, r .blocks), omega (arith, r .sub-blocks))
 
@@ -71,10 +71,10 @@ pub counted-by : (l : Bytes) (x : Entry) (n : ℕ) (e : Encoding) → Placed (x 
 counted-by l x n e p q a =
     record {
       blocks = λ j h.
-          ap (λ i. numberAt 8 l (i + 8 * j)) (p .blocks) ∙ a .blocks j (lt-started blockBits (edgeCount x) j (omega arith) (rw (p .bits) at h))
+          ap (λ i. blockAt l i j) (p .blocks) ∙ a .blocks j (lt-started blockBits (edgeCount x) j (omega arith) (rw (p .bits) at h))
           ∙ ap (λ z. blockOnes z j) (sym q);
       sub-blocks = λ j h.
-          ap (λ i. numberAt 2 l (i + 2 * j)) (p .sub-blocks) ∙ a .subBlocks j (lt-started subBlockBits (edgeCount x) j (omega arith) (rw (p .bits) at h))
+          ap (λ i. subBlockAt l i j) (p .sub-blocks) ∙ a .subBlocks j (lt-started subBlockBits (edgeCount x) j (omega arith) (rw (p .bits) at h))
           ∙ ap (λ z. subBlockOnes z j) (sym q);
     }
 
@@ -88,7 +88,7 @@ module _ (l : Bytes) (e : Encoding) (o : Opens l e) where
   pub opens-placed : Placed (entryIn l .width) (e .count) (edgeCount (entryIn l)) e
   opens-placed = record { width = o .width; count = refl; bits = o .bits; edges = o .edges; blocks = o .blocks; sub-blocks = o .sub-blocks }
 
-  pub opens-room : Room l e
+  pub opens-room : FieldsFit l e
   opens-room =
       placed-room l (entryIn l .width) (e .count) (edgeCount (entryIn l)) e (opens-valid .narrow) (opens-valid .few) opens-placed
       (ap length opens-encode ∙ encode-length (entryIn l))
@@ -97,11 +97,11 @@ module _ (l : Bytes) (e : Encoding) (o : Opens l e) where
   opens-agrees = subst (λ x. Agrees x (entryIn l)) (sym opens-encode) (encode-agrees (entryIn l) opens-valid)
 
   -- field 3 has the ends of the levels
-  pub opens-levels : (d : ℕ) → d < e .width → numberAt 4 l (start3 + 3 + 4 * d) ≡ levelEnd (entryIn l) d
+  pub opens-levels : (d : ℕ) → d < e .width → levelAt l d ≡ levelEnd (entryIn l) d
   opens-levels d h = opens-agrees .levels d (omega (arith, h, o .width))
 
   pub opens-edges : edgesAt l e ≡ edgesOf (entryIn l)
-  unfolding edgesAt edgesIn entryIn followed
+  unfolding edgesAt edgesIn entryIn entryAlong
   opens-edges =
       rw (o .edges, o .bits, ← opens-agrees .bits)
       (subst (λ x. edgesIn x ≡ edgesOf (entryIn l)) (sym opens-encode) (edges-read (entryIn l) opens-valid))
@@ -109,8 +109,8 @@ module _ (l : Bytes) (e : Encoding) (o : Opens l e) where
   pub opens-counted : Counted l e
   opens-counted = counted-by l (entryIn l) (e .count) e opens-placed opens-edges opens-agrees
 
-  pub opens-held : held (e .width) (e .bits) (drop (e .edges) l) ≡ entryIn l
-  unfolding held entryIn edgesIn followed
+  pub opens-held : entryHeld (e .width) (e .bits) (drop (e .edges) l) ≡ entryIn l
+  unfolding entryHeld entryIn edgesIn entryAlong
   opens-held = rw (o .width, o .edges, o .bits, ← opens-agrees .bits)
 
   pub opens-holds : Holds (e .width) (e .bits) (drop (e .edges) l)

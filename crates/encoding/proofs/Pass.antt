@@ -7,16 +7,17 @@ use native.Mathlib.Omega.{arith}
 use native.Mathlib.Decide.{decLe}
 use lib.ListN.{length, drop}
 use lib.Seq.{drop-drop}
-use Rattle.loes.specs.Limits.{subBlockBits}
-use Rattle.loes.specs.Bytes.{Bytes, tabulate, started, numberAt, bitsIn}
+use Rattle.loes.specs.Limits.{subBlockBits, blockEntry, subBlockEntry, subBlocks}
+use Rattle.loes.specs.Bytes.{Bytes, tabulate, started, bitsIn}
 use Rattle.loes.specs.Edges.{ones, onesBefore}
 use Rattle.loes.specs.Encode.{blockOnes, subBlockOnes}
+use Rattle.loes.specs.Read.{blockAt, subBlockAt}
 use Rattle.loes.proofs.Tests.{both}
 use Rattle.bits.specs.Tables.{noneEmpty}
 use Rattle.bits.proofs.Counts.{before-bits, ones-more, ones-bits-le}
 use Rattle.bits.proofs.Records.{full-more}
 use Rattle.encoding.specs.declared.Encoding.{Encoding}
-use Rattle.encoding.specs.Opened.{edgesAt, Room, Counted}
+use Rattle.encoding.specs.Opened.{edgesAt, FieldsFit, Counted}
 use Rattle.encoding.specs.Agree.{EntriesAt, BlockBase, WholeRight}
 use Rattle.encoding.proofs.Opened.{room-at}
 use Rattle.encoding.proofs.Index.{sub-block-start}
@@ -29,13 +30,13 @@ done e j = min (64 * j) (e .bits / 8)
 pub record Going (l : Bytes) (e : Encoding) (j n : ℕ) : Type 0 where
   pub count : n ≡ ones (bitsIn (drop (e .edges) l) (8 * done e j))
   pub full : noneEmpty (bitsIn (drop (e .edges) l) (8 * done e j)) ≡ true
-  pub blocks : (i : ℕ) → i < j → numberAt 8 l (e .blocks + 8 * (i / 128)) ≡ blockOnes (edgesAt l e) (i / 128)
-  pub sub-blocks : (i : ℕ) → i < j → numberAt 2 l (e .«sub_blocks» + 2 * i) ≡ subBlockOnes (edgesAt l e) i
+  pub blocks : (i : ℕ) → i < j → blockAt l (e .blocks) (i / subBlocks) ≡ blockOnes (edgesAt l e) (i / subBlocks)
+  pub sub-blocks : (i : ℕ) → i < j → subBlockAt l (e .«sub_blocks») i ≡ subBlockOnes (edgesAt l e) i
 
 pub below-next : (P : ℕ → Type 0) (d : ℕ) → ((j : ℕ) → j < d → P j) → P d → (j : ℕ) → j < d + 1 → P j
 below-next P d f p j h = elim (decLe (suc j) d) [ yes l ↦ f j l | no l ↦ let z : d ≡ j = omega arith in rw z at p ]
 
-pub sub-block-first : (x : List Bool) (j : ℕ) → j % 128 ≡ 0 → subBlockOnes x j ≡ 0
+pub sub-block-first : (x : List Bool) (j : ℕ) → j % subBlocks ≡ 0 → subBlockOnes x j ≡ 0
 unfolding subBlockOnes onesBefore ones
 sub-block-first x j h = rw h
 
@@ -50,38 +51,38 @@ module _ (l : Bytes) (e : Encoding) where
         sub-blocks = λ i h. absurd (omega arith);
       }
 
-  pub entries-room : (j : ℕ) → Room l e → subBlockBits * j < e .bits
-      → (e .blocks + 8 * (j / 128) + 8 ≤ length l) × (e .«sub_blocks» + 2 * j + 2 ≤ length l)
+  pub entries-room : (j : ℕ) → FieldsFit l e → subBlockBits * j < e .bits
+      → (e .blocks + blockEntry * (j / subBlocks) + blockEntry ≤ length l) × (e .«sub_blocks» + subBlockEntry * j + subBlockEntry ≤ length l)
   entries-room j r h =
       let o = room-at l e (512 * j) r h in
-      let zb : (512 * j) / 65536 ≡ j / 128 = omega arith in
+      let zb : (512 * j) / 65536 ≡ j / subBlocks = omega arith in
       let zs : (512 * j) / 512 ≡ j = omega arith in
       (rw zb at (o .1), rw zs at (o .2))
 
   -- the block's entry is read at its first sub-block, and stands for the others
   abbrev pub Later : ℕ → ℕ → Type 0
-  Later j base = (j % 128 ≡ 0 → ⊥) → numberAt 8 l (e .blocks + 8 * (j / 128)) ≡ base
+  Later j base = (j % subBlocks ≡ 0 → ⊥) → blockAt l (e .blocks) (j / subBlocks) ≡ base
 
-  pub based : (j base n b : ℕ) → base ≤ n → Later j base → (j % 128 ≡ 0 → b ≡ n) × ((j % 128 ≡ 0 → ⊥) → b ≡ base) → BlockBase l e j b n
+  pub based : (j base n b : ℕ) → base ≤ n → Later j base → (j % subBlocks ≡ 0 → b ≡ n) × ((j % subBlocks ≡ 0 → ⊥) → b ≡ base) → BlockBase l e j b n
   based j base n b h f q =
       record {
-        below = elim (decLe 1 (j % 128)) [ yes p ↦ omega (arith, q .1 (λ z. omega (arith, z, p))) | no p ↦ omega (arith, q .0 (omega arith)) ];
+        below = elim (decLe 1 (j % subBlocks)) [ yes p ↦ omega (arith, q .1 (λ z. omega (arith, z, p))) | no p ↦ omega (arith, q .0 (omega arith)) ];
         first = q .0;
         later = λ z. f z ∙ sym (q .1 z);
       }
 
   pub later-next : (j b n : ℕ) → BlockBase l e j b n → EntriesAt l e j n → Later (j + 1) b
   later-next j b n d x z =
-      let v : (j + 1) / 128 ≡ j / 128 = elim (decLe 1 ((j + 1) % 128)) [ yes p ↦ omega arith | no p ↦ absurd (z (omega arith)) ] in
-      ap (λ i. numberAt 8 l (e .blocks + 8 * i)) v
-      ∙ elim (decLe 1 (j % 128)) [ yes p ↦ d .later (λ w. omega (arith, w, p)) | no p ↦ let w : j % 128 ≡ 0 = omega arith in x .1 w ∙ sym (d .first w) ]
+      let v : (j + 1) / 128 ≡ j / subBlocks = elim (decLe 1 ((j + 1) % 128)) [ yes p ↦ omega arith | no p ↦ absurd (z (omega arith)) ] in
+      ap (λ i. blockAt l (e .blocks) i) v
+      ∙ elim (decLe 1 (j % subBlocks)) [ yes p ↦ d .later (λ w. omega (arith, w, p)) | no p ↦ let w : j % subBlocks ≡ 0 = omega arith in x .1 w ∙ sym (d .first w) ]
 
   module _ (j n : ℕ) (g : Going l e j n) where
     pub count-le : n ≤ e .bits
     count-le = omega (arith, g .count, ones-bits-le (drop (e .edges) l) (8 * done e j))
 
     -- the set bits before sub-block j
-    count-at : subBlockBits * j < e .bits → blockOnes (edgesAt l e) (j / 128) + subBlockOnes (edgesAt l e) j ≡ n
+    count-at : subBlockBits * j < e .bits → blockOnes (edgesAt l e) (j / subBlocks) + subBlockOnes (edgesAt l e) j ≡ n
     unfolding edgesAt
     count-at h =
         let y : Bytes = drop (e .edges) l in
@@ -91,18 +92,18 @@ module _ (l : Bytes) (e : Encoding) where
     pub entries-of : subBlockBits * j < e .bits → Counted l e → EntriesAt l e j n
     entries-of h c =
         let x : List Bool = edgesAt l e in
-        let a = c .blocks (j / 128) (omega arith) in
+        let a = c .blocks (j / subBlocks) (omega arith) in
         let t = count-at h in
         (ap₂ _+_ a (c .sub-blocks j h) ∙ t, λ z. omega (arith, a, t, sub-block-first x j z))
 
     entries-are : subBlockBits * j < e .bits → EntriesAt l e j n
-        → (numberAt 8 l (e .blocks + 8 * (j / 128)) ≡ blockOnes (edgesAt l e) (j / 128)) × (numberAt 2 l (e .«sub_blocks» + 2 * j) ≡ subBlockOnes (edgesAt l e) j)
+        → (blockAt l (e .blocks) (j / subBlocks) ≡ blockOnes (edgesAt l e) (j / subBlocks)) × (subBlockAt l (e .«sub_blocks») j ≡ subBlockOnes (edgesAt l e) j)
     entries-are h x =
         let t = count-at h in
-        let a : numberAt 8 l (e .blocks + 8 * (j / 128)) ≡ blockOnes (edgesAt l e) (j / 128) =
-        elim (decLe 1 (j % 128)) [
-          | yes p ↦ let z : (j - 1) / 128 ≡ j / 128 = omega arith in rw z at (g .blocks (j - 1) (omega arith))
-          | no p ↦ let z : j % 128 ≡ 0 = omega arith in omega (arith, x .1 z, t, sub-block-first (edgesAt l e) j z)
+        let a : blockAt l (e .blocks) (j / subBlocks) ≡ blockOnes (edgesAt l e) (j / subBlocks) =
+        elim (decLe 1 (j % subBlocks)) [
+          | yes p ↦ let z : (j - 1) / 128 ≡ j / subBlocks = omega arith in rw z at (g .blocks (j - 1) (omega arith))
+          | no p ↦ let z : j % subBlocks ≡ 0 = omega arith in omega (arith, x .1 z, t, sub-block-first (edgesAt l e) j z)
         ] in
         (a, omega (arith, a, t, x .0))
 
@@ -136,8 +137,8 @@ module _ (l : Bytes) (e : Encoding) where
           record {
             count = omega (arith, c, t .1, ap ones part-here, ap (λ m. ones (bitsIn y m)) v, ones-more y (64 * j) (8 * size));
             full = ap (λ m. noneEmpty (bitsIn y m)) v ∙ full-more y (64 * j) (8 * size) ∙ ap₂ _&&_ f (ap noneEmpty (sym part-here) ∙ t .0);
-            blocks = below-next (λ i. numberAt 8 l (e .blocks + 8 * (i / 128)) ≡ blockOnes (edgesAt l e) (i / 128)) j (g .blocks) (r .0);
-            sub-blocks = below-next (λ i. numberAt 2 l (e .«sub_blocks» + 2 * i) ≡ subBlockOnes (edgesAt l e) i) j (g .sub-blocks) (r .1);
+            blocks = below-next (λ i. blockAt l (e .blocks) (i / subBlocks) ≡ blockOnes (edgesAt l e) (i / subBlocks)) j (g .blocks) (r .0);
+            sub-blocks = below-next (λ i. subBlockAt l (e .«sub_blocks») i ≡ subBlockOnes (edgesAt l e) i) j (g .sub-blocks) (r .1);
           }
 
     pub going-end : started subBlockBits (e .bits) ≤ j → WholeRight l e × (n ≡ ones (bitsIn (drop (e .edges) l) (8 * (e .bits / 8))))

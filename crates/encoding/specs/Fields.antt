@@ -1,12 +1,13 @@
 -- What reading the fields finds.
 use mathlib.Core.Path.{_≡_}
-use Prim.Native.Nat.{ℕ, zero, suc, _+_, _^_, _<_}
+use Prim.Native.Nat.{ℕ, zero, suc, _^_, _<_}
 use mathlib.Core.Bool.{_&&_, cond}
 use mathlib.Core.Option.{Option, none, some}
 use lib.Dec.{eqb, ltb}
+use Rattle.loes.specs.Limits.{widthBytes, countBytes}
 use Rattle.loes.specs.Bytes.{Bytes, numberAt}
 use Rattle.loes.specs.Refusals.{wrongTag, firstOf}
-use Rattle.loes.specs.Read.{levelBytes, edgeBytes, blockBytes, subBlockBytes, start2, widthIn, edgeCountIn, headTests, tailTests, rejected, read}
+use Rattle.loes.specs.Read.{levelBytes, edgeBytes, blockBytes, subBlockBytes, bodyAt, start2, widthIn, edgeCountIn, headTests, tailTests, rejected, read}
 use Rattle.encoding.specs.declared.Checked.{Checked}
 use Rattle.encoding.specs.declared.Checked.the-variants.{Refused, Opened}
 use Rattle.encoding.specs.declared.Encoding.{Encoding}
@@ -22,8 +23,8 @@ refusalOf (suc k) = some (suc k)
 -- the length laid down for the body of the field of a tag from 1 to 6, for width m and b edge bits
 unfoldable pub bodyBytes : ℕ → ℕ → ℕ → ℕ
 bodyBytes t m b =
-    cond (eqb t 1) 2
-    (cond (eqb t 2) 4
+    cond (eqb t 1) widthBytes
+    (cond (eqb t 2) countBytes
     (cond (eqb t 3) (levelBytes m)
     (cond (eqb t 4) (edgeBytes b)
     (cond (eqb t 5) (blockBytes b)
@@ -37,7 +38,7 @@ laidBy t m b = cond (ltb 0 t && ltb t 7) (Length (bodyBytes t m b)) (NoTag wrong
 pub record Fields (l : Bytes) (e : Encoding) : Type 0 where
   pub head : firstOf (headTests l) ≡ none
   pub tail : firstOf (tailTests (widthIn l) (edgeCountIn l) l) ≡ none
-  pub placed : Placed (widthIn l) (numberAt 4 l (start2 + 3)) (edgeCountIn l) e
+  pub placed : Placed (widthIn l) (numberAt countBytes l (bodyAt start2)) (edgeCountIn l) e
   pub small : e .count < 2 ^ 32
 
 -- the fields are read: refused, or not before 7

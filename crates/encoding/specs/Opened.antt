@@ -5,10 +5,10 @@ use mathlib.Core.Bool.{Bool}
 use mathlib.Core.List.{List}
 use lib.ListN.{length, drop}
 use Rattle.loes.specs.Limits.{maxWidth, maxEdges, maxBytes, blockBits, subBlockBits}
-use Rattle.loes.specs.Bytes.{Bytes, numberAt, bitsIn}
+use Rattle.loes.specs.Bytes.{Bytes, bitsIn}
 use Rattle.loes.specs.Entry.{count, edgeCount}
 use Rattle.loes.specs.Encode.{blockOnes, subBlockOnes}
-use Rattle.loes.specs.Read.{levelBytes, edgeBytes, blockBytes, subBlockBytes, start3, start4, start5, start6, entryIn, opened, read}
+use Rattle.loes.specs.Read.{levelBytes, edgeBytes, blockBytes, subBlockBytes, bodyAt, start3, start4, start5, start6, blockAt, subBlockAt, entryIn, opened, read}
 use Rattle.encoding.specs.declared.Encoding.{Encoding}
 
 -- what every function behind the check relies on
@@ -17,29 +17,29 @@ pub record Opens (l : Bytes) (e : Encoding) : Type 0 where
   pub width : e .width ≡ entryIn l .width
   pub count : e .count ≡ count (entryIn l)
   pub bits : e .bits ≡ edgeCount (entryIn l)
-  pub edges : e .edges ≡ start4 (entryIn l .width) + 3
-  pub blocks : e .blocks ≡ start5 (entryIn l .width) (edgeCount (entryIn l)) + 3
-  pub sub-blocks : e .«sub_blocks» ≡ start6 (entryIn l .width) (edgeCount (entryIn l)) + 3
+  pub edges : e .edges ≡ bodyAt (start4 (entryIn l .width))
+  pub blocks : e .blocks ≡ bodyAt (start5 (entryIn l .width) (edgeCount (entryIn l)))
+  pub sub-blocks : e .«sub_blocks» ≡ bodyAt (start6 (entryIn l .width) (edgeCount (entryIn l)))
 
 -- the numbers of width m, n keys and b edge bits, and where the fields lie for them
 pub record Placed (m n b : ℕ) (e : Encoding) : Type 0 where
   pub width : e .width ≡ m
   pub count : e .count ≡ n
   pub bits : e .bits ≡ b
-  pub edges : e .edges ≡ start4 m + 3
-  pub blocks : e .blocks ≡ start5 m b + 3
-  pub sub-blocks : e .«sub_blocks» ≡ start6 m b + 3
+  pub edges : e .edges ≡ bodyAt (start4 m)
+  pub blocks : e .blocks ≡ bodyAt (start5 m b)
+  pub sub-blocks : e .«sub_blocks» ≡ bodyAt (start6 m b)
 
 -- the edges at an encoding's place
 unfoldable pub edgesAt : Bytes → Encoding → List Bool
 edgesAt l e = bitsIn (drop (e .edges) l) (e .bits)
 
 -- the bodies of fields 3 to 6 lie in the bytes, with eight bytes and more before field 4's
-pub record Room (l : Bytes) (e : Encoding) : Type 0 where
+pub record FieldsFit (l : Bytes) (e : Encoding) : Type 0 where
   pub narrow : e .width ≤ maxWidth
   pub few : e .bits ≤ maxEdges
   pub bytes : length l ≤ maxBytes
-  pub levels : start3 + 3 + levelBytes (e .width) ≤ length l
+  pub levels : bodyAt start3 + levelBytes (e .width) ≤ length l
   pub before : 8 ≤ e .edges
   pub edges : e .edges + edgeBytes (e .bits) ≤ length l
   pub blocks : e .blocks + blockBytes (e .bits) ≤ length l
@@ -47,5 +47,5 @@ pub record Room (l : Bytes) (e : Encoding) : Type 0 where
 
 -- fields 5 and 6 count the set bits of field 4
 pub record Counted (l : Bytes) (e : Encoding) : Type 0 where
-  pub blocks : (j : ℕ) → blockBits * j < e .bits → numberAt 8 l (e .blocks + 8 * j) ≡ blockOnes (edgesAt l e) j
-  pub sub-blocks : (j : ℕ) → subBlockBits * j < e .bits → numberAt 2 l (e .«sub_blocks» + 2 * j) ≡ subBlockOnes (edgesAt l e) j
+  pub blocks : (j : ℕ) → blockBits * j < e .bits → blockAt l (e .blocks) j ≡ blockOnes (edgesAt l e) j
+  pub sub-blocks : (j : ℕ) → subBlockBits * j < e .bits → subBlockAt l (e .«sub_blocks») j ≡ subBlockOnes (edgesAt l e) j

@@ -1,22 +1,22 @@
 // An opened encoding: reading the fields, the full check, and rank behind it.
-ghost use Prim.Native.Nat.{ℕ, _+_, _-_, _*_, _%_, _^_, _<_, _≤_, min};
+ghost use Prim.Native.Nat.{ℕ, _+_, _-_, _*_, _/_, _%_, _^_, _<_, _≤_, min};
 ghost use mathlib.Core.Path.{_≡_};
 ghost use mathlib.Core.Bool.{false};
 ghost use lib.ListN.{length, drop, getD};
 ghost use Rattle.loes.specs.Limits.{maxWidth, maxEdges, subBlockBits, subBlocks};
-ghost use Rattle.loes.specs.Bytes.{started, numberAt, sameNumbers};
+ghost use Rattle.loes.specs.Bytes.{sameNumbers};
 ghost use Rattle.loes.specs.Edges.{onesBefore};
+ghost use Rattle.loes.specs.Prefixes.{roots};
 ghost use Rattle.loes.specs.Entry.{edgesOf};
 ghost use Rattle.loes.specs.Encode.{levelEnd, encode};
 ghost use Rattle.loes.specs.Refusals.{firstOf};
-ghost use Rattle.loes.specs.Read.{start3, start4, entryIn, fieldTests, headTests, tailTests};
+ghost use Rattle.loes.specs.Read.{levelBytes, bodyAt, start3, start4, endOf, levelAt, entryIn, fieldTests, headTests, tailTests};
 ghost use Rattle.loes.specs.Calls.{openCall, rankCall};
-ghost use Rattle.loes.proofs.Ends.{roots};
 ghost use Rattle.bits.specs.Tables.{Tallies};
 ghost use Rattle.bits.specs.Words.{Scanned};
-ghost use Rattle.encoding.specs.Opened.{Opens, Placed, Room, Counted, edgesAt};
+ghost use Rattle.encoding.specs.Opened.{Opens, Placed, FieldsFit, Counted, edgesAt};
 ghost use Rattle.encoding.specs.Fields.{refusalOf, bodyBytes, laidBy, Fields, Parsed, Checks};
-ghost use Rattle.encoding.specs.Agree.{Tells, EntriesAt, BlockBase, near, Full, Whole, Last, Levelled};
+ghost use Rattle.encoding.specs.Agree.{Decides, EntriesAt, BlockBase, near, BytesTallied, Whole, Last, Levelled};
 ghost use Rattle.encoding.specs.Answers.{toldOutcome, rankedOutcome};
 use bits::EdgeOffset;
 use loes::refusal;
@@ -34,43 +34,59 @@ pub struct Encoding {
     pub sub_blocks: usize,
 }
 
-// The bytes of a field's tag and length.
-const HEAD: usize = 3;
-// Where the body of field 2 begins; that of field 1 begins behind its head.
-const COUNT: usize = 8;
-// Where the body of field 3 begins.
-const LEVELS: usize = 15;
-// The edge bytes of a sub-block.
-const SUB_BLOCK_BYTES: usize = Encoding::SUB_BLOCK_BITS / 8;
-// The sub-blocks of a block.
-const SUB_BLOCKS: usize = Encoding::BLOCK_BITS / Encoding::SUB_BLOCK_BITS;
-
-// How many parts of a size are started by n.
-fn started_by(n: usize, size: usize) -> usize
-    requires { ⌜ (n ≤ maxEdges) × (0 < size) × (size ≤ maxEdges) ⌝ }
-    ensures { λ r. ⌜ (r ≡ started size n) × (r < n + size) ⌝ }
-{
-    (n + (size - 1)) / size
-}
-
 impl Encoding {
     // The greatest width of a key, in bits.
     pub const MAX_WIDTH: usize = 256;
+    // The bytes of the widest keys.
+    pub const MAX_KEY_BYTES: usize = Encoding::MAX_WIDTH / 8;
     // The most bits that an edge sequence may have.
     pub const MAX_EDGES: usize = 524_280;
     // The edge bits of a block.
     pub const BLOCK_BITS: usize = 65_536;
     // The edge bits of a sub-block.
     pub const SUB_BLOCK_BITS: usize = 512;
+    // The edge bytes of a sub-block.
+    pub const SUB_BLOCK_BYTES: usize = Encoding::SUB_BLOCK_BITS / 8;
+    // The sub-blocks of a block.
+    pub const SUB_BLOCKS: usize = Encoding::BLOCK_BITS / Encoding::SUB_BLOCK_BITS;
+
+    // The bytes of a field's tag.
+    pub const TAG_BYTES: usize = 1;
+    // The bytes of its length.
+    pub const LENGTH_BYTES: usize = 2;
+    // The bytes of its head: tag and length.
+    pub const HEAD_BYTES: usize = Encoding::TAG_BYTES + Encoding::LENGTH_BYTES;
+    // The bytes of the body of field 1.
+    pub const WIDTH_BYTES: usize = 2;
+    // The bytes of the body of field 2.
+    pub const COUNT_BYTES: usize = 4;
+    // The bytes of an entry of field 3.
+    pub const LEVEL_ENTRY: usize = 4;
+    // The bytes of an entry of field 5.
+    pub const BLOCK_ENTRY: usize = 8;
+    // The bytes of an entry of field 6.
+    pub const SUB_BLOCK_ENTRY: usize = 2;
+
+    // Where the body of field 1 begins; the field begins at 0.
+    pub const WIDTH_AT: usize = Encoding::HEAD_BYTES;
+    // Where field 2 begins.
+    pub const START2: usize = Encoding::WIDTH_AT + Encoding::WIDTH_BYTES;
+    // Where the body of field 2 begins.
+    pub const COUNT_AT: usize = Encoding::START2 + Encoding::HEAD_BYTES;
+    // Where field 3 begins.
+    pub const START3: usize = Encoding::COUNT_AT + Encoding::COUNT_BYTES;
+    // Where the body of field 3 begins.
+    pub const LEVELS_AT: usize = Encoding::START3 + Encoding::HEAD_BYTES;
 
     // Of width m, n keys and b edge bits: each field begins behind the one before it.
     pub fn new(width: usize, count: usize, bits: usize) -> Encoding
         requires { ⌜ (width ≤ maxWidth) × (bits ≤ maxEdges) ⌝ }
         ensures { λ r. ⌜ Placed width count bits r ⌝ }
     {
-        let edges = LEVELS + 4 * width + HEAD;
-        let blocks = edges + started_by(bits, 8) + HEAD;
-        let sub_blocks = blocks + 8 * started_by(bits, Encoding::BLOCK_BITS) + HEAD;
+        let edges = Encoding::LEVELS_AT + Encoding::LEVEL_ENTRY * width + Encoding::HEAD_BYTES;
+        let blocks = edges + bits::bytes_for(bits) + Encoding::HEAD_BYTES;
+        let started = bits::started_by(bits, Encoding::BLOCK_BITS);
+        let sub_blocks = blocks + Encoding::BLOCK_ENTRY * started + Encoding::HEAD_BYTES;
         Encoding {
             width,
             count,
@@ -80,6 +96,14 @@ impl Encoding {
             sub_blocks,
         }
     }
+}
+
+// Where an encoding ends: behind the body of field 6.
+pub fn end_of(e: Encoding) -> usize
+    requires { ⌜ Placed (e .width) (e .count) (e .bits) e × (e .width ≤ maxWidth) × (e .bits ≤ maxEdges) ⌝ }
+    ensures { λ r. ⌜ r ≡ endOf (e .width) (e .bits) ⌝ }
+{
+    e.sub_blocks + Encoding::SUB_BLOCK_ENTRY * bits::started_by(e.bits, Encoding::SUB_BLOCK_BITS)
 }
 
 // ---- Reading the fields
@@ -94,12 +118,14 @@ fn laid_by(tag: u8, width: usize, bits: usize) -> Laid
     ensures { λ r. ⌜ r ≡ laidBy tag width bits ⌝ }
 {
     match tag {
-        1 => Laid::Length(2),
-        2 => Laid::Length(4),
-        3 => Laid::Length(4 * width),
-        4 => Laid::Length(started_by(bits, 8)),
-        5 => Laid::Length(8 * started_by(bits, Encoding::BLOCK_BITS)),
-        6 => Laid::Length(2 * started_by(bits, Encoding::SUB_BLOCK_BITS)),
+        1 => Laid::Length(Encoding::WIDTH_BYTES),
+        2 => Laid::Length(Encoding::COUNT_BYTES),
+        3 => Laid::Length(Encoding::LEVEL_ENTRY * width),
+        4 => Laid::Length(bits::bytes_for(bits)),
+        5 => Laid::Length(Encoding::BLOCK_ENTRY * bits::started_by(bits, Encoding::BLOCK_BITS)),
+        6 => Laid::Length(
+            Encoding::SUB_BLOCK_ENTRY * bits::started_by(bits, Encoding::SUB_BLOCK_BITS),
+        ),
         0 | 7..=255 => Laid::Refused(refusal::WRONG_TAG),
     }
 }
@@ -110,7 +136,7 @@ fn field_refusal(l: &[u8], at: usize, turn: u8, width: usize, bits: usize) -> u8
     ensures { λ r. ⌜ refusalOf r ≡ firstOf (fieldTests turn (bodyBytes turn width bits) (now (l .entry)) at) ⌝ }
 {
     let left = l.len() - at;
-    if left < HEAD {
+    if left < Encoding::HEAD_BYTES {
         return refusal::TRUNCATED;
     }
     let tag = l[at];
@@ -120,10 +146,10 @@ fn field_refusal(l: &[u8], at: usize, turn: u8, width: usize, bits: usize) -> u8
             if tag != turn {
                 return refusal::WRONG_TAG;
             }
-            if bits::number2(l, at + 1) != n {
+            if bits::number2(l, at + Encoding::TAG_BYTES) != n {
                 return refusal::WRONG_LENGTH;
             }
-            if left - HEAD < n {
+            if left - Encoding::HEAD_BYTES < n {
                 return refusal::TRUNCATED;
             }
             0
@@ -139,22 +165,23 @@ fn head_refusal(l: &[u8]) -> u8
     if first != 0 {
         return first;
     }
-    let width = bits::number2(l, HEAD);
+    let width = bits::number2(l, Encoding::WIDTH_AT);
     if width == 0 {
         return refusal::BAD_WIDTH;
     }
     if Encoding::MAX_WIDTH < width {
         return refusal::BAD_WIDTH;
     }
-    let second = field_refusal(l, COUNT - HEAD, 2, width, 0);
+    let second = field_refusal(l, Encoding::START2, 2, width, 0);
     if second != 0 {
         return second;
     }
-    let third = field_refusal(l, LEVELS - HEAD, 3, width, 0);
+    let third = field_refusal(l, Encoding::START3, 3, width, 0);
     if third != 0 {
         return third;
     }
-    if Encoding::MAX_EDGES < bits::number4(l, LEVELS + 4 * (width - 1)) {
+    let last = Encoding::LEVELS_AT + Encoding::LEVEL_ENTRY * (width - 1);
+    if Encoding::MAX_EDGES < bits::number4(l, last) {
         return refusal::TOO_LARGE;
     }
     0
@@ -165,19 +192,19 @@ fn tail_refusal(l: &[u8], e: Encoding) -> u8
     requires { ⌜ Placed (e .width) (e .count) (e .bits) e × (e .width ≤ maxWidth) × (e .bits ≤ maxEdges) × (start4 (e .width) ≤ length (now l)) ⌝ }
     ensures { λ r. ⌜ refusalOf r ≡ firstOf (tailTests (e .width) (e .bits) (now (l .entry))) ⌝ }
 {
-    let fourth = field_refusal(l, e.edges - HEAD, 4, e.width, e.bits);
+    let fourth = field_refusal(l, e.edges - Encoding::HEAD_BYTES, 4, e.width, e.bits);
     if fourth != 0 {
         return fourth;
     }
-    let fifth = field_refusal(l, e.blocks - HEAD, 5, e.width, e.bits);
+    let fifth = field_refusal(l, e.blocks - Encoding::HEAD_BYTES, 5, e.width, e.bits);
     if fifth != 0 {
         return fifth;
     }
-    let sixth = field_refusal(l, e.sub_blocks - HEAD, 6, e.width, e.bits);
+    let sixth = field_refusal(l, e.sub_blocks - Encoding::HEAD_BYTES, 6, e.width, e.bits);
     if sixth != 0 {
         return sixth;
     }
-    if e.sub_blocks + 2 * started_by(e.bits, Encoding::SUB_BLOCK_BITS) < l.len() {
+    if end_of(e) < l.len() {
         return refusal::TRAILING_BYTES;
     }
     0
@@ -197,9 +224,9 @@ fn parse(l: &[u8]) -> Checked
     if head != 0 {
         return Checked::Refused(head);
     }
-    let width = bits::number2(l, HEAD);
-    let bits = bits::number4(l, LEVELS + 4 * (width - 1));
-    let e = Encoding::new(width, bits::number4(l, COUNT), bits);
+    let width = bits::number2(l, Encoding::WIDTH_AT);
+    let bits = bits::number4(l, Encoding::LEVELS_AT + Encoding::LEVEL_ENTRY * (width - 1));
+    let e = Encoding::new(width, bits::number4(l, Encoding::COUNT_AT), bits);
     let tail = tail_refusal(l, e);
     if tail != 0 {
         return Checked::Refused(tail);
@@ -213,7 +240,7 @@ const NEAR: usize = 256;
 
 // The set bits before an offset, by the index fields.
 fn indexed_ones(l: &[u8], t: &[u8], e: Encoding, o: EdgeOffset) -> usize
-    requires { ⌜ Room (now l) e × Counted (now l) e × Tallies (now t) × (o .0 ≤ e .bits) ⌝ }
+    requires { ⌜ FieldsFit (now l) e × Counted (now l) e × Tallies (now t) × (o .0 ≤ e .bits) ⌝ }
     ensures { λ r. ⌜ r ≡ onesBefore (edgesAt (now (l .entry)) e) (o .0) ⌝ }
 {
     let n = o.0;
@@ -223,16 +250,17 @@ fn indexed_ones(l: &[u8], t: &[u8], e: Encoding, o: EdgeOffset) -> usize
     let last = n - 1;
     let sub = last / Encoding::SUB_BLOCK_BITS;
     let at = e.edges + last / 8;
-    let block = bits::number8(l, e.blocks + 8 * (last / Encoding::BLOCK_BITS));
-    let sub_block = bits::number2(l, e.sub_blocks + 2 * sub);
-    let whole = bits::tally_bytes(l, t, e.edges + SUB_BLOCK_BYTES * sub, at);
+    let j = last / Encoding::BLOCK_BITS;
+    let block = bits::number8(l, e.blocks + Encoding::BLOCK_ENTRY * j);
+    let sub_block = bits::number2(l, e.sub_blocks + Encoding::SUB_BLOCK_ENTRY * sub);
+    let whole = bits::tally_bytes(l, t, e.edges + Encoding::SUB_BLOCK_BYTES * sub, at);
     let x = (l[at] as usize) >> (7 - last % 8);
     block + sub_block + whole + (t[x] as usize)
 }
 
 // The set bits before an offset, if n are set before another that is near before it: the other's byte and those behind it are counted, less the bits before the other in its byte.
 fn ones_near(l: &[u8], t: &[u8], e: Encoding, from: EdgeOffset, n: usize, o: EdgeOffset) -> usize
-    requires { ⌜ Room (now l) e × Tallies (now t) × (from .0 < o .0) × (o .0 ≤ from .0 + near) × (o .0 ≤ e .bits) × (n ≡ onesBefore (edgesAt (now l) e) (from .0)) ⌝ }
+    requires { ⌜ FieldsFit (now l) e × Tallies (now t) × (from .0 < o .0) × (o .0 ≤ from .0 + near) × (o .0 ≤ e .bits) × (n ≡ onesBefore (edgesAt (now l) e) (from .0)) ⌝ }
     ensures { λ r. ⌜ r ≡ onesBefore (edgesAt (now (l .entry)) e) (o .0) ⌝ }
 {
     let a = from.0;
@@ -247,7 +275,7 @@ fn ones_near(l: &[u8], t: &[u8], e: Encoding, from: EdgeOffset, n: usize, o: Edg
 
 // The set bits before an offset, if n are set before another that is not behind it.
 fn ones_on(l: &[u8], t: &[u8], e: Encoding, from: EdgeOffset, n: usize, o: EdgeOffset) -> usize
-    requires { ⌜ Room (now l) e × Counted (now l) e × Tallies (now t) × (from .0 ≤ o .0) × (o .0 ≤ e .bits) × (n ≡ onesBefore (edgesAt (now l) e) (from .0)) ⌝ }
+    requires { ⌜ FieldsFit (now l) e × Counted (now l) e × Tallies (now t) × (from .0 ≤ o .0) × (o .0 ≤ e .bits) × (n ≡ onesBefore (edgesAt (now l) e) (from .0)) ⌝ }
     ensures { λ r. ⌜ r ≡ onesBefore (edgesAt (now (l .entry)) e) (o .0) ⌝ }
 {
     let far = o.0 - from.0;
@@ -285,20 +313,25 @@ pub fn roots_of(bits: usize) -> usize
 pub fn block_base(j: usize, base: usize, ones: usize) -> usize
     ensures { λ r. ⌜ (j % subBlocks ≡ 0 → r ≡ ones) × ((j % subBlocks ≡ 0 → ⊥) → r ≡ base) ⌝ }
 {
-    if j % SUB_BLOCKS == 0 { ones } else { base }
+    if j % Encoding::SUB_BLOCKS == 0 {
+        ones
+    } else {
+        base
+    }
 }
 
 // Whether the entries of sub-block j and of its block fit n set bits before it, and `base` before its block: the block's is read at its first sub-block.
 fn entries_agree(l: &[u8], e: Encoding, j: usize, base: usize, n: usize) -> bool
-    requires { ⌜ Room (now l) e × (subBlockBits * j < e .bits) × BlockBase (now l) e j base n ⌝ }
-    ensures { λ r. ⌜ Tells r (EntriesAt (now (l .entry)) e j n) ⌝ }
+    requires { ⌜ FieldsFit (now l) e × (subBlockBits * j < e .bits) × BlockBase (now l) e j base n ⌝ }
+    ensures { λ r. ⌜ Decides r (EntriesAt (now (l .entry)) e j n) ⌝ }
 {
-    if j % SUB_BLOCKS == 0 {
-        if bits::number8(l, e.blocks + 8 * (j / SUB_BLOCKS)) != n {
+    if j % Encoding::SUB_BLOCKS == 0 {
+        let block = j / Encoding::SUB_BLOCKS;
+        if bits::number8(l, e.blocks + Encoding::BLOCK_ENTRY * block) != n {
             return false;
         }
     }
-    bits::number2(l, e.sub_blocks + 2 * j) == n - base
+    bits::number2(l, e.sub_blocks + Encoding::SUB_BLOCK_ENTRY * j) == n - base
 }
 
 // The lower bit of each of a word's 32 records, and of a byte's four.
@@ -330,11 +363,11 @@ fn scan_words(l: &[u8], from: usize, words: usize) -> Scan
 }
 
 // A whole sub-block: its eight words, by a loop of its own when compiled.
-fn sub_block_ones(l: &[u8], from: usize) -> Tallied
-    requires { ⌜ from + 64 ≤ length (now l) ⌝ }
-    ensures { λ r. ⌜ Full (drop from (now (l .entry))) 64 r ⌝ }
+fn scan_sub_block(l: &[u8], from: usize) -> Tallied
+    requires { ⌜ from + subBlockBits / 8 ≤ length (now l) ⌝ }
+    ensures { λ r. ⌜ BytesTallied (drop from (now (l .entry))) (subBlockBits / 8) r ⌝ }
 {
-    let p = scan_words(l, from, SUB_BLOCK_BYTES / 8);
+    let p = scan_words(l, from, Encoding::SUB_BLOCK_BYTES / 8);
     if p.full != RECORDS {
         return Tallied::Wrong;
     }
@@ -343,8 +376,8 @@ fn sub_block_ones(l: &[u8], from: usize) -> Tallied
 
 // Fewer bytes, from..upto: whole words, then the bytes behind them as one.
 fn part_ones(l: &[u8], from: usize, upto: usize) -> Tallied
-    requires { ⌜ (8 ≤ from) × (from ≤ upto) × (upto ≤ length (now l)) × (upto ≤ from + 64) ⌝ }
-    ensures { λ r. ⌜ Full (drop from (now (l .entry))) (upto - from) r ⌝ }
+    requires { ⌜ (8 ≤ from) × (from ≤ upto) × (upto ≤ length (now l)) × (upto ≤ from + subBlockBits / 8) ⌝ }
+    ensures { λ r. ⌜ BytesTallied (drop from (now (l .entry))) (upto - from) r ⌝ }
 {
     let size = upto - from;
     let p = scan_words(l, from, size / 8);
@@ -362,7 +395,7 @@ fn part_ones(l: &[u8], from: usize, upto: usize) -> Tallied
 
 // One pass over the whole edge bytes, sub-block by sub-block: no record is empty, and both index fields are right.
 fn whole_ones(l: &[u8], e: Encoding) -> Tallied
-    requires { ⌜ Room (now l) e ⌝ }
+    requires { ⌜ FieldsFit (now l) e ⌝ }
     ensures { λ r. ⌜ Whole (now (l .entry)) e r ⌝ }
 {
     let edges = e.edges;
@@ -375,7 +408,7 @@ fn whole_ones(l: &[u8], e: Encoding) -> Tallied
         if !entries_agree(l, e, j, base, n) {
             return Tallied::Wrong;
         }
-        let Tallied::Ones(k) = sub_block_ones(l, edges + SUB_BLOCK_BYTES * j) else {
+        let Tallied::Ones(k) = scan_sub_block(l, edges + Encoding::SUB_BLOCK_BYTES * j) else {
             return Tallied::Wrong;
         };
         n += k;
@@ -389,7 +422,8 @@ fn whole_ones(l: &[u8], e: Encoding) -> Tallied
     if !entries_agree(l, e, j, base, n) {
         return Tallied::Wrong;
     }
-    let Tallied::Ones(rest) = part_ones(l, edges + SUB_BLOCK_BYTES * j, edges + e.bits / 8) else {
+    let from = edges + Encoding::SUB_BLOCK_BYTES * j;
+    let Tallied::Ones(rest) = part_ones(l, from, edges + e.bits / 8) else {
         return Tallied::Wrong;
     };
     let ones = n + rest;
@@ -406,7 +440,7 @@ fn lowest(used: usize) -> usize
 
 // The last byte, if it is not whole: its left-over bits are clear, and with them set no record is empty.
 fn last_ones(l: &[u8], e: Encoding) -> Tallied
-    requires { ⌜ Room (now l) e ⌝ }
+    requires { ⌜ FieldsFit (now l) e ⌝ }
     ensures { λ r. ⌜ Last (now (l .entry)) e r ⌝ }
 {
     let used = e.bits % 8;
@@ -429,12 +463,12 @@ fn last_ones(l: &[u8], e: Encoding) -> Tallied
 
 // Whether every level ends at 0, as in the empty set: a short loop, with nothing to count.
 fn levels_empty(l: &[u8], width: usize) -> bool
-    requires { ⌜ (width ≤ maxWidth) × (start3 + 3 + 4 * width ≤ length (now l)) ⌝ }
-    ensures { λ r. ⌜ Tells r ((d : ℕ) → d < width → numberAt 4 (now (l .entry)) (start3 + 3 + 4 * d) ≡ 0) ⌝ }
+    requires { ⌜ (width ≤ maxWidth) × (bodyAt start3 + levelBytes width ≤ length (now l)) ⌝ }
+    ensures { λ r. ⌜ Decides r ((d : ℕ) → d < width → levelAt (now (l .entry)) d ≡ 0) ⌝ }
 {
     let mut d = 0;
     while d < width {
-        if bits::number4(l, LEVELS + 4 * d) != 0 {
+        if bits::number4(l, Encoding::LEVELS_AT + Encoding::LEVEL_ENTRY * d) != 0 {
             return false;
         }
         d += 1;
@@ -445,8 +479,8 @@ fn levels_empty(l: &[u8], width: usize) -> bool
 // Whether each level ends at twice the records so far: the roots, and one for each set bit before the level.
 // The next claim is read before the set bits to this one are counted, so that no read waits for a count.
 fn levels_counted(l: &[u8], t: &[u8], e: Encoding) -> bool
-    requires { ⌜ Room (now l) e × Counted (now l) e × Tallies (now t) ⌝ }
-    ensures { λ r. ⌜ Tells r (Levelled (now (l .entry)) e) ⌝ }
+    requires { ⌜ FieldsFit (now l) e × Counted (now l) e × Tallies (now t) ⌝ }
+    ensures { λ r. ⌜ Decides r (Levelled (now (l .entry)) e) ⌝ }
 {
     let width = e.width;
     let roots = roots_of(e.bits);
@@ -455,7 +489,7 @@ fn levels_counted(l: &[u8], t: &[u8], e: Encoding) -> bool
     let mut n = 0;
     let mut d = 0;
     while d < width {
-        let end = bits::number4(l, LEVELS + 4 * d);
+        let end = bits::number4(l, Encoding::LEVELS_AT + Encoding::LEVEL_ENTRY * d);
         n = ones_on(l, t, e, EdgeOffset(from), n, EdgeOffset(start));
         if end != 2 * (roots + n) {
             return false;
@@ -469,8 +503,8 @@ fn levels_counted(l: &[u8], t: &[u8], e: Encoding) -> bool
 
 // Whether field 3 has the ends of the levels.
 fn levels_agree(l: &[u8], t: &[u8], e: Encoding) -> bool
-    requires { ⌜ Room (now l) e × Counted (now l) e × Tallies (now t) ⌝ }
-    ensures { λ r. ⌜ Tells r (Levelled (now (l .entry)) e) ⌝ }
+    requires { ⌜ FieldsFit (now l) e × Counted (now l) e × Tallies (now t) ⌝ }
+    ensures { λ r. ⌜ Decides r (Levelled (now (l .entry)) e) ⌝ }
 {
     if e.bits == 0 {
         return levels_empty(l, e.width);
@@ -526,7 +560,7 @@ pub fn level_end(l: &[u8], e: Encoding, d: usize) -> EdgeOffset
     requires { ⌜ Opens (now l) e × (d < e .width) ⌝ }
     ensures { λ r. ⌜ r .0 ≡ levelEnd (entryIn (now (l .entry))) d ⌝ }
 {
-    EdgeOffset(bits::number4(l, LEVELS + 4 * d))
+    EdgeOffset(bits::number4(l, Encoding::LEVELS_AT + Encoding::LEVEL_ENTRY * d))
 }
 
 // Whether the edge at an offset is set.

@@ -14,11 +14,11 @@ use Rattle.loes.specs.Keys.{Key, either, without}
 use Rattle.loes.specs.Entry.{Entry, edgesOf, edgeCount, withSet, Valid}
 use Rattle.loes.specs.Refusals.{twoWidths, test, firstOf}
 use Rattle.loes.specs.Read.{rejected, opened, read, entryIn, start5, start6}
-use Rattle.loes.specs.Held.{held, Holds}
+use Rattle.loes.specs.Held.{entryHeld, Holds}
 use Rattle.loes.specs.Model.{Outcome, refusal, joinTests, writes}
 use Rattle.loes.specs.Calls.{reading, afterReading}
 use Rattle.loes.proofs.Tests.{eq-yes, yes-eq, both}
-use Rattle.loes.proofs.Reading.{bits-front, followed-sized}
+use Rattle.loes.proofs.Reading.{bits-front, along-sized}
 use Rattle.loes.proofs.Writes.{writes-refused, writes-on}
 use Rattle.loes.proofs.Bits.{length-bitsIn}
 use Rattle.encoding.specs.Opened.{Opens}
@@ -27,9 +27,9 @@ use Rattle.encoding.proofs.Opened.{opens-room, opens-valid, opens-held, opens-h
 use Rattle.encoding.specs.declared.Encoding.{Encoding}
 use Rattle.encoding.specs.declared.Checked.{Checked}
 use Rattle.encoding.specs.declared.Checked.the-variants as checked
-use Rattle.records.specs.Records.{Written}
+use Rattle.records.specs.Records.{Packed}
 use Rattle.records.specs.Numbers.{overread}
-use Rattle.build.specs.Writing.{Sealed}
+use Rattle.build.specs.Writing.{HoldsOnly}
 use Rattle.records.proofs.Sealing.{written-bits, written-room}
 use Rattle.join.specs.declared.Join.{Join}
 use Rattle.join.specs.declared.Join.the-variants as join
@@ -81,10 +81,10 @@ unfolding withSet
 join-width join.Union e f = refl
 join-width join.Difference e f = refl
 
-module _ (x : Entry) (positive : 0 < x .width) (sized : (k : Key) → x .set k ≡ true → length k ≡ x .width) (old new : Bytes) (k : ℕ) (w : Written (edgesOf x) old new k) where
-  pub join-held : held (x .width) k new ≡ x
-  unfolding held
-  join-held = rw (written-bits w) (followed-sized x positive sized)
+module _ (x : Entry) (positive : 0 < x .width) (sized : (k : Key) → x .set k ≡ true → length k ≡ x .width) (old new : Bytes) (k : ℕ) (w : Packed (edgesOf x) old new k) where
+  pub join-held : entryHeld (x .width) k new ≡ x
+  unfolding entryHeld
+  join-held = rw (written-bits w) (along-sized x positive sized)
 
   pub join-joined : x .width ≤ 256 → Joined (x .width) k new
   join-joined narrow =
@@ -98,31 +98,33 @@ module _ (x : Entry) (positive : 0 < x .width) (sized : (k : Key) → x .set k �
 
 -- ---- What the writer is given
 module _ (m k : ℕ) (l : Bytes) (j : Joined m k l) where
-  pub joined-bits : edgeCount (held m k l) ≡ k
+  pub joined-bits : edgeCount (entryHeld m k l) ≡ k
   unfolding edgeCount
   joined-bits = ap length (j .same) ∙ length-bitsIn l k
 
-  pub cut-fits : (k + 7) / 8 ≤ length l
-  cut-fits = omega (arith, j .room)
+  -- the n bytes that they take
+  module _ (n : ℕ) (size : n ≡ started 8 k) where
+    pub cut-fits : n ≤ length l
+    unfolding started
+    cut-fits = omega (arith, size, j .room)
 
-  cut-long : length (take ((k + 7) / 8) l) ≡ (k + 7) / 8
-  cut-long = length-take-le ((k + 7) / 8) l cut-fits
+    cut-room : k ≤ 8 * length (take n l)
+    unfolding started
+    cut-room = omega (arith, size, length-take-le n l cut-fits)
 
-  cut-bits : bitsIn (take ((k + 7) / 8) l) k ≡ bitsIn l k
-  cut-bits =
-      sym (ap (λ x. bitsIn x k) (sym (take-append-drop ((k + 7) / 8) l)) ∙ bits-front (take ((k + 7) / 8) l) (drop ((k + 7) / 8) l) k (omega (arith, cut-long)))
+    cut-bits : bitsIn (take n l) k ≡ bitsIn l k
+    cut-bits = sym (ap (λ x. bitsIn x k) (sym (take-append-drop n l)) ∙ bits-front (take n l) (drop n l) k cut-room)
 
-  pub cut-held : held m k (take ((k + 7) / 8) l) ≡ held m k l
-  unfolding held
-  cut-held = rw cut-bits
+    pub cut-held : entryHeld m k (take n l) ≡ entryHeld m k l
+    unfolding entryHeld
+    cut-held = rw cut-bits
 
-  pub cut-sealed : k ≤ maxEdges → Sealed m k (take ((k + 7) / 8) l)
-  unfolding started
-  cut-sealed few =
-      record {
-        holds = record { positive = j .positive; narrow = j .narrow; few = few; room = omega (arith, cut-long); same = ap edgesOf cut-held ∙ j .same ∙ sym cut-bits };
-        whole = ap packBits cut-bits ∙ sym (j .whole);
-      }
+    pub cut-sealed : k ≤ maxEdges → HoldsOnly m k (take n l)
+    cut-sealed few =
+        record {
+          holds = record { positive = j .positive; narrow = j .narrow; few = few; room = cut-room; same = ap edgesOf cut-held ∙ j .same ∙ sym cut-bits };
+          whole = ap packBits cut-bits ∙ sym (j .whole) ∙ ap (λ i. take i l) (sym size);
+        }
 
 -- ---- The whole call on two encodings of one width
 -- an encoding has fewer edges than bits
@@ -148,10 +150,10 @@ module _ (kind : Join) (a b : Bytes) (e f : Encoding) (p : Opens a e) (q : Opens
   pub second-holds : Holds (e .width) (f .bits) second
   second-holds = rw (rest-is b (f .edges), w) (opens-holds b f q)
 
-  first-held : held (e .width) (e .bits) first ≡ entryIn a
+  first-held : entryHeld (e .width) (e .bits) first ≡ entryIn a
   first-held = rw (rest-is a (e .edges)) (opens-held a e p)
 
-  second-held : held (e .width) (f .bits) second ≡ entryIn b
+  second-held : entryHeld (e .width) (f .bits) second ≡ entryIn b
   second-held = rw (rest-is b (f .edges), w) (opens-held b f q)
 
   same-width : entryIn a .width ≡ entryIn b .width
@@ -163,9 +165,9 @@ module _ (kind : Join) (a b : Bytes) (e f : Encoding) (p : Opens a e) (q : Opens
   asked-width : asked .width ≡ e .width
   asked-width = join-width kind (entryIn a) (entryIn b) ∙ sym (p .width)
 
-  module _ (old new : Bytes) (k : ℕ) (r : Written (edgesOf (joinOf kind (held (e .width) (e .bits) first) (held (e .width) (f .bits) second))) old new k) where
-    made : Written (edgesOf asked) old new k
-    made = subst (λ x. Written (edgesOf x) old new k) (ap₂ (joinOf kind) first-held second-held) r
+  module _ (old new : Bytes) (k : ℕ) (r : Packed (edgesOf (joinOf kind (entryHeld (e .width) (e .bits) first) (entryHeld (e .width) (f .bits) second))) old new k) where
+    made : Packed (edgesOf asked) old new k
+    made = subst (λ x. Packed (edgesOf x) old new k) (ap₂ (joinOf kind) first-held second-held) r
 
     valid : Valid (entryIn a)
     valid = opens-valid a e p
@@ -179,10 +181,10 @@ module _ (kind : Join) (a b : Bytes) (e f : Encoding) (p : Opens a e) (q : Opens
     pub joined : Joined (e .width) k new
     joined = rw (← asked-width) (join-joined asked positive sized old new k made (omega (arith, join-width kind (entryIn a) (entryIn b), valid .narrow)))
 
-    held-asked : held (e .width) k new ≡ asked
+    held-asked : entryHeld (e .width) k new ≡ asked
     held-asked = rw (← asked-width) (join-held asked positive sized old new k made)
 
-    pub joined-call : (out : Bytes) → writes [] (held (e .width) k new ∷ []) (out ∷ []) .outcome ≡ joinCall (joinOf kind) a b out
+    pub joined-call : (out : Bytes) → writes [] (entryHeld (e .width) k new ∷ []) (out ∷ []) .outcome ≡ joinCall (joinOf kind) a b out
     joined-call out =
         ap (λ x. writes [] (x ∷ []) (out ∷ []) .outcome) held-asked
         ∙ ap (λ x. x .outcome) (sym (writes-on (joinTests (entryIn a) (entryIn b)) (asked ∷ []) (out ∷ []) (unfold joinTests firstOf test in rw (same-width, eq-yes (entryIn b .width)))))

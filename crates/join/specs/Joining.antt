@@ -9,12 +9,12 @@ use Rattle.loes.specs.Limits.{maxWidth, maxEdges}
 use Rattle.loes.specs.Bytes.{Bytes, started, packBits, bitsIn}
 use Rattle.loes.specs.Entry.{Entry, edgesOf}
 use Rattle.loes.specs.Refusals.{twoWidths}
-use Rattle.loes.specs.Held.{held}
-use Rattle.loes.specs.Model.{Outcome, refusal, joinTests, writes}
+use Rattle.loes.specs.Held.{entryHeld}
+use Rattle.loes.specs.Model.{Outcome, refusal, joinTests, writes, unionEntry, differenceEntry}
 use Rattle.loes.specs.Calls.{reading}
 use Rattle.encoding.specs.Opened.{Opens}
-use Rattle.merge.specs.Union.{unionOf, QueueRoom}
-use Rattle.restrict.specs.Restriction.{differenceOf}
+use Rattle.records.specs.Numbers.{overwrite}
+use Rattle.merge.specs.Union.{QueueRoom}
 use Rattle.encoding.specs.declared.Checked.{Checked}
 use Rattle.encoding.specs.declared.Checked.the-variants as checked
 use Rattle.join.specs.declared.Join.{Join}
@@ -24,8 +24,8 @@ use Rattle.join.specs.declared.Pair.the-variants as pair
 
 -- the entry that is asked for
 abbrev pub joinOf : Join → Entry → Entry → Entry
-joinOf join.Union = unionOf
-joinOf join.Difference = differenceOf
+joinOf join.Union = unionEntry
+joinOf join.Difference = differenceEntry
 
 -- first encoding, second encoding, 13, then 5 and 14
 unfoldable pub joinCall : (Entry → Entry → Entry) → Bytes → Bytes → Bytes → Outcome
@@ -47,10 +47,10 @@ pub record Joined (m k : ℕ) (l : Bytes) : Type 0 where
   pub positive : 0 < m
   pub narrow : m ≤ maxWidth
   pub room : k ≤ 8 * length l
-  pub same : edgesOf (held m k l) ≡ bitsIn l k
+  pub same : edgesOf (entryHeld m k l) ≡ bitsIn l k
   pub whole : take (started 8 k) l ≡ packBits (bitsIn l k)
 
--- the rooms: for encodings of at most so many bytes, and for any two
+-- the rooms: for encodings of at most so many bytes, and for any two by the most edges
 abbrev pub tiny : ℕ
 tiny = 512
 
@@ -60,23 +60,23 @@ small = 2048
 abbrev pub middle : ℕ
 middle = 16384
 
-abbrev pub spare : ℕ
-spare = 64
+abbrev pub large : ℕ
+large = maxEdges / 8
 
+-- the bytes of the records that a run put at the end may write, and one that the root's flag begins
+abbrev pub spare : ℕ
+spare = overwrite / 4 + 1
+
+-- of n bytes: the flags of 8 n edges of each of two, four flags to a byte
 abbrev pub queueFor : ℕ → ℕ
 queueFor n = 4 * n + spare
 
+-- and the edges of one
 abbrev pub edgesFor : ℕ → ℕ
 edgesFor n = n + spare
-
-abbrev pub largeQueue : ℕ
-largeQueue = maxEdges / 2 + spare
-
-abbrev pub largeEdges : ℕ
-largeEdges = maxEdges / 8 + spare
 
 -- room in a queue, and for the edges of a difference, for whatever two encodings of these lengths have
 pub record Rooms (x y : ℕ) (q l : Bytes) : Type 0 where
   pub enough : (ba bb : ℕ) → ba ≤ 8 * x → ba ≤ maxEdges → bb ≤ 8 * y → bb ≤ maxEdges → QueueRoom ba bb q × (ba < 8 * length l)
-  pub queue : length q ≤ largeQueue
-  pub edges : length l ≤ largeEdges
+  pub queue : length q ≤ queueFor large
+  pub edges : length l ≤ edgesFor large

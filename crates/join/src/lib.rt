@@ -4,16 +4,15 @@ ghost use mathlib.Core.Path.{_≡_};
 ghost use mathlib.Core.List.{[], _∷_};
 ghost use lib.ListN.{length};
 ghost use Rattle.loes.specs.Entry.{edgesOf};
-ghost use Rattle.loes.specs.Held.{held, Holds};
-ghost use Rattle.loes.specs.Model.{writes};
+ghost use Rattle.loes.specs.Held.{entryHeld, Holds};
+ghost use Rattle.loes.specs.Model.{writes, unionEntry, differenceEntry};
 ghost use Rattle.loes.specs.Calls.{unionCall, differenceCall};
 ghost use Rattle.bits.specs.Tables.{Tallies};
 ghost use Rattle.build.specs.Writing.{writtenOutcome};
-ghost use Rattle.records.specs.Records.{Written as Collected};
+ghost use Rattle.records.specs.Records.{Packed};
 ghost use Rattle.records.specs.Numbers.{overread};
-ghost use Rattle.merge.specs.Union.{unionOf, QueueRoom};
-ghost use Rattle.restrict.specs.Restriction.{differenceOf};
-ghost use Rattle.join.specs.Joining.{pairOf, Both, joinOf, Joined, tiny, small, middle, queueFor, edgesFor, largeQueue, largeEdges, Rooms, joinCall};
+ghost use Rattle.merge.specs.Union.{QueueRoom};
+ghost use Rattle.join.specs.Joining.{pairOf, Both, joinOf, Joined, tiny, small, middle, large, queueFor, edgesFor, Rooms, joinCall};
 use build::Written;
 use encoding::Checked;
 use encoding::Encoding;
@@ -72,7 +71,7 @@ fn united(m: usize, a: &[u8], ba: usize, b: &[u8], bb: usize, q: &mut [u8]) -> u
     requires { ⌜ Holds m ba (now a) × (ba / 2 + overread ≤ 4 * length (now a)) ⌝ }
     requires { ⌜ Holds m bb (now b) × (bb / 2 + overread ≤ 4 * length (now b)) ⌝ }
     requires { ⌜ QueueRoom ba bb (now q) ⌝ }
-    ensures { λ k. ⌜ Collected (edgesOf (unionOf (held m ba (now (a .entry))) (held m bb (now (b .entry))))) (now (q .entry)) (now (q .exit)) k ⌝ }
+    ensures { λ k. ⌜ Packed (edgesOf (unionEntry (entryHeld m ba (now (a .entry))) (entryHeld m bb (now (b .entry))))) (now (q .entry)) (now (q .exit)) k ⌝ }
 {
     if ba + bb < UNION_LEVEL * m + TABLES_FROM {
         return merge::unite(m, a, ba, b, bb, &[], &[], &[], q);
@@ -97,7 +96,7 @@ fn subtracted(
     requires { ⌜ Holds m ba (now a) × (ba / 2 + overread ≤ 4 * length (now a)) ⌝ }
     requires { ⌜ Holds m bb (now b) × (bb / 2 + overread ≤ 4 * length (now b)) ⌝ }
     requires { ⌜ QueueRoom ba bb (now q) × (ba < 8 * length (now edges)) ⌝ }
-    ensures { λ k. ⌜ Collected (edgesOf (differenceOf (held m ba (now (a .entry))) (held m bb (now (b .entry))))) (now (edges .entry)) (now (edges .exit)) k ⌝ }
+    ensures { λ k. ⌜ Packed (edgesOf (differenceEntry (entryHeld m ba (now (a .entry))) (entryHeld m bb (now (b .entry))))) (now (edges .entry)) (now (edges .exit)) k ⌝ }
 {
     if ba + bb < DIFFERENCE_LEVEL * m + TABLES_FROM {
         return restrict::subtract(m, a, ba, b, bb, &[], &[], &[], q, edges);
@@ -111,13 +110,13 @@ fn subtracted(
 
 // Writes the entry that k edge bits hold: 5, then 14.
 fn write_joined(m: usize, k: usize, edges: &[u8], t: &[u8], out: &mut [u8]) -> Written
-    requires { ⌜ Joined m k (now edges) × Tallies (now t) × (length (now edges) ≤ largeQueue) ⌝ }
-    ensures { λ r. ⌜ writtenOutcome r (now (out .exit)) ≡ writes [] (held m k (now (edges .entry)) ∷ []) (now (out .entry) ∷ []) .outcome ⌝ }
+    requires { ⌜ Joined m k (now edges) × Tallies (now t) × (length (now edges) ≤ queueFor large) ⌝ }
+    ensures { λ r. ⌜ writtenOutcome r (now (out .exit)) ≡ writes [] (entryHeld m k (now (edges .entry)) ∷ []) (now (out .entry) ∷ []) .outcome ⌝ }
 {
     if k > Encoding::MAX_EDGES {
         return Written::Refused(refusal::TOO_LARGE);
     }
-    let n = (k + 7) / 8;
+    let n = bits::bytes_for(k);
     build::write(m, k, &edges[..n], t, out)
 }
 
@@ -154,35 +153,39 @@ fn join_with(
     }
 }
 
-// ---- Rooms: a queue for the flags that merging pushes, two bits for each edge of both, and room for the edges of a difference, which are no more than the first's. Small ones are quick to clear.
-// Bytes behind them, of which a run put at the end takes at most eight.
-const SPARE: usize = 64;
+// ---- Rooms. For two encodings of at most n bytes each, so at most 8 n edges: a queue of QUEUE_BYTES * n + SPARE bytes for the flags that merging pushes, two bits for each edge of both, and n + SPARE bytes for the edges of a difference, which are no more than the first's. Small ones are quick to clear.
+// The bytes of a queue for each of n: sixteen flags.
+const QUEUE_BYTES: usize = 4;
+// The bytes behind them: a run put at the end takes eight, the flag of the root begins one more.
+const SPARE: usize = 8 + 1;
 
-// For two encodings of at most this many bytes each.
+// The greatest n of tiny encodings.
 const TINY: usize = 512;
 
-const TINY_QUEUE: usize = 4 * TINY + SPARE;
+const TINY_QUEUE: usize = QUEUE_BYTES * TINY + SPARE;
 
 const TINY_EDGES: usize = TINY + SPARE;
 
-// For two of at most this many.
+// Of small ones.
 const SMALL: usize = 2048;
 
-const SMALL_QUEUE: usize = 4 * SMALL + SPARE;
+const SMALL_QUEUE: usize = QUEUE_BYTES * SMALL + SPARE;
 
 const SMALL_EDGES: usize = SMALL + SPARE;
 
-// For two of at most this many.
+// Of those of middle size.
 const MIDDLE: usize = 16384;
 
-const MIDDLE_QUEUE: usize = 4 * MIDDLE + SPARE;
+const MIDDLE_QUEUE: usize = QUEUE_BYTES * MIDDLE + SPARE;
 
 const MIDDLE_EDGES: usize = MIDDLE + SPARE;
 
-// For any two: as many flags as both can have edges, and as many edges as one.
-const QUEUE: usize = Encoding::MAX_EDGES / 2 + SPARE;
+// Of any, by the most edges.
+const LARGE: usize = Encoding::MAX_EDGES / 8;
 
-const EDGES: usize = Encoding::MAX_EDGES / 8 + SPARE;
+const LARGE_QUEUE: usize = QUEUE_BYTES * LARGE + SPARE;
+
+const LARGE_EDGES: usize = LARGE + SPARE;
 
 // The rooms, cleared.
 fn tiny_queue() -> [u8; TINY_QUEUE]
@@ -221,16 +224,16 @@ fn middle_edges() -> [u8; MIDDLE_EDGES]
     [0; MIDDLE_EDGES]
 }
 
-fn large_queue() -> [u8; QUEUE]
-    ensures { λ r. ⌜ length r ≡ largeQueue ⌝ }
+fn large_queue() -> [u8; LARGE_QUEUE]
+    ensures { λ r. ⌜ length r ≡ queueFor large ⌝ }
 {
-    [0; QUEUE]
+    [0; LARGE_QUEUE]
 }
 
-fn large_edges() -> [u8; EDGES]
-    ensures { λ r. ⌜ length r ≡ largeEdges ⌝ }
+fn large_edges() -> [u8; LARGE_EDGES]
+    ensures { λ r. ⌜ length r ≡ edgesFor large ⌝ }
 {
-    [0; EDGES]
+    [0; LARGE_EDGES]
 }
 
 // For two tiny encodings. Each of these four makes the counting table and is called at two places, so that it stays a function when compiled: a small join does not touch the stack of a large one.

@@ -6,7 +6,7 @@ use mathlib.Core.List.{List, [], _∷_, _++_, map, map-append, append-nil, appen
 use native.Mathlib.Omega.{arith}
 use native.Mathlib.Decide.{decLe}
 use lib.ListN.{length, take, drop, getD, List·getD-eq-default}
-use lib.Seq.{ext-getD, drop-at, getD-take}
+use lib.Seq.{ext-getD, take-suc, drop-at, getD-take}
 use lib.Count
 use lib.Dec.{eqb}
 use Rattle.loes.proofs.Lists.{ones-append}
@@ -87,6 +87,12 @@ pub map-tabulate : {A B : Type 0} (g : A → B) (f : ℕ → A) (n : ℕ) → ma
 unfolding tabulate
 map-tabulate g f zero = refl
 map-tabulate g f (suc n) = rw (map-append, map-tabulate g f n)
+
+-- the first n of a list, by place
+pub take-tabulate : (l : List ℕ) (n : ℕ) → n ≤ length l → take n l ≡ tabulate (λ (i : ℕ). getD l i 0) n
+unfolding tabulate
+take-tabulate l zero h = refl
+take-tabulate l (suc n) h = take-suc l n 0 h ∙ ap (λ x. x ++ getD l n 0 ∷ []) (take-tabulate l n (omega arith))
 
 pub tabulate-add : {A : Type 0} (f : ℕ → A) (n k : ℕ) → tabulate f (n + k) ≡ tabulate f n ++ tabulate (λ (j : ℕ). f (n + j)) k
 unfolding tabulate

@@ -7,6 +7,7 @@ use native.Mathlib.Omega.{arith}
 use native.Mathlib.Decide.{decLe}
 use lib.ListN.{length, getD, length-append, List·getD-append}
 use lib.Seq.{getD-at}
+use Rattle.loes.specs.Limits.{headBytes}
 use Rattle.loes.specs.Bytes.{tabulate, bigEndian, bigEndians, started, byteOf, packBits}
 use Rattle.loes.specs.Encode.{field}
 use Rattle.loes.proofs.Tree.{length-snoc}
@@ -52,6 +53,6 @@ unfolding packBits
 length-packed e = length-tabulate (byteOf e) (started 8 (length e))
 
 -- ---- fields
-pub field-length : (t : ℕ) (b : List ℕ) → length (field t b) ≡ 3 + length b
+pub field-length : (t : ℕ) (b : List ℕ) → length (field t b) ≡ headBytes + length b
 unfolding field
 field-length t b = rw (length-append (bigEndian 2 (length b)) b, length-bigEndian 2 (length b)) (omega arith)

@@ -11,23 +11,15 @@ use lib.Dec.{ltb}
 use Rattle.loes.specs.Bytes.{bit}
 use Rattle.loes.specs.Keys.{Key, KeySet, members}
 use Rattle.loes.specs.Edges.{Record, recordBits, ones, onesBefore, edges, edgesBefore, present}
+use Rattle.loes.specs.Prefixes.{inhabited, prefixCount, recordsBefore, roots, ends}
 use Rattle.loes.specs.Entry.{ofWidth}
 use Rattle.loes.proofs.Lists.{ones-append, bits-append}
 use Rattle.loes.proofs.Tests.{lt-yes, eq-yes}
-use Rattle.loes.proofs.Tree.{inhabited, treeLevel, prefixCount, tree-empty, level-tree, length-tree, count-one, length-members}
-use Rattle.loes.proofs.Navigation.{recordsBefore, length-edgesBefore, ones-edgesBefore, edges-from, edges-empty, no-edges}
+use Rattle.loes.proofs.Tree.{treeLevel, tree-empty, level-tree, length-tree, count-one, length-members}
+use Rattle.loes.proofs.Navigation.{length-edgesBefore, ones-edgesBefore, edges-from, edges-empty, no-edges}
 use Rattle.loes.proofs.Extensional.{edges-ext}
 use Rattle.loes.proofs.Forest.{NoEmpty, none as noKeys, inhabited-none}
 use Rattle.loes.proofs.WellFormed.{recordsIn, records-bits, WellFormed, well-present, no-empty-append, no-empty-tree}
-
--- the records of level 0 of a sequence of b bits
-unfoldable pub roots : ℕ → ℕ
-roots b = bit (ltb 0 b)
-
--- where the level before level d ends: the records there are so far are the roots and one for each set bit before
-unfoldable pub ends : ℕ → List Bool → ℕ → ℕ
-ends c e zero = 0
-ends c e (suc d) = 2 * (c + onesBefore e (ends c e d))
 
 -- ---- In the edge sequence of a set
 -- the levels before level d are the front of the sequence

@@ -1,19 +1,21 @@
 -- The worked examples hold, by computation.
 use mathlib.Core.Path.{refl}
-use Rattle.loes.specs.Bytes.{tabulate, join, sameNumbers, started, bigEndian, bigEndians, bytesValue, numberAt, odd, bitsValue, byteOf, packBits, bitAt, bitsIn, front}
-use Rattle.loes.specs.Keys.{filter, any, sameKey, less, isPrefix, allKeys, members, smaller, setOf, either, without}
+use mathlib.Core.List.{flatten}
+use mathlib.Core.Option.{none}
+use Rattle.loes.specs.Bytes.{tabulate, sameNumbers, started, bigEndian, bigEndians, bytesValue, numberAt, odd, bitsValue, byteOf, packBits, bitAt, bitsIn, front}
+use Rattle.loes.specs.Keys.{those, anyOf, sameKey, less, isPrefix, allKeys, members, smaller, setOf, either, without}
 use Rattle.loes.specs.Edges.{found, recordOf, level, recordBits, edgesBefore, edges, ones, onesBefore, rank, edgeOffsets, allSet, present, lastOf, edgeIndex}
 use Rattle.loes.specs.Entry.{keyBytes, keysOf, count, edgesOf, edgeCount, withSet, ofWidth, wrongWidth, tooManyEdges}
 use Rattle.loes.specs.Encode.{field, blockOnes, subBlockOnes, levelEnd, widthBody, countBody, levelBody, edgeBody, blockBody, subBlockBody, encode}
 use Rattle.loes.specs.Refusals.{test, firstOf}
-use Rattle.loes.specs.Read.{start4, start5, start6, endOf, widthIn, edgeCountIn, edgesIn, followed, entryIn, fieldTests, headTests, tailTests, readTests, readingOf, read}
+use Rattle.loes.specs.Read.{start4, start5, start6, endOf, widthIn, edgeCountIn, edgesIn, entryAlong, entryIn, fieldTests, headTests, tailTests, readTests, readingOf, read}
 use Rattle.loes.specs.Model.{refusal, refusedOr, tested, answers, fronts, anyShort, writes, writesKey, keyIn, unusedSet, keyTest, belowTest, batchKeys, risingTests, packTests, batchEntry, pack, joinTests, union, difference, opens, contains, indexOf, keyAt, rankAt, lowerBound}
 use Rattle.loes.specs.Calls.{afterReading, reading, packCall, unionCall, differenceCall, openCall, containsCall, indexOfCall, keyAtCall, rankCall, lowerBoundCall}
-use Rattle.loes.specs.Cursor.{allZero, pathOf, offsetsRight, isCursorOf, padded, keyOfPath, nextIndex, hasNext, nextKey, stays, goesTo, goesToAfter, staysOr, advanceTests, advance, advanceReading, advanceCall}
+use Rattle.loes.specs.Cursor.{allZero, pathOf, hasPath, offsetsRight, isCursorOf, padded, keyOf, keyOfPath, nextIndex, hasNext, nextKey, stays, goesTo, goesToAfter, staysOr, advanceTests, advance, advanceReading, advanceCall}
 use Rattle.loes.specs.Examples.{Examples, FurtherExamples}
 
 pub examples : Examples
-unfolding tabulate join sameNumbers started bigEndian bigEndians bytesValue numberAt odd bitsValue byteOf packBits bitAt bitsIn front filter any sameKey less isPrefix allKeys members smaller setOf either without found recordOf level recordBits edgesBefore edges ones onesBefore rank edgeOffsets allSet present lastOf edgeIndex keyBytes keysOf count edgesOf edgeCount withSet ofWidth wrongWidth tooManyEdges field blockOnes subBlockOnes levelEnd widthBody countBody levelBody edgeBody blockBody subBlockBody encode test firstOf start4 start5 start6 endOf widthIn edgeCountIn edgesIn followed entryIn fieldTests headTests tailTests readTests readingOf read refusal refusedOr tested answers fronts anyShort writes writesKey keyIn unusedSet keyTest belowTest batchKeys risingTests packTests batchEntry pack joinTests union difference opens contains indexOf keyAt rankAt lowerBound afterReading reading packCall unionCall differenceCall openCall containsCall indexOfCall keyAtCall rankCall lowerBoundCall allZero pathOf offsetsRight isCursorOf padded keyOfPath nextIndex hasNext nextKey stays goesTo goesToAfter staysOr advanceTests advance advanceReading advanceCall
+unfolding tabulate flatten sameNumbers started bigEndian bigEndians bytesValue numberAt odd bitsValue byteOf packBits bitAt bitsIn front those anyOf sameKey less isPrefix allKeys members smaller setOf either without found recordOf level recordBits edgesBefore edges ones onesBefore rank edgeOffsets allSet present lastOf edgeIndex keyBytes keysOf count edgesOf edgeCount withSet ofWidth wrongWidth tooManyEdges field blockOnes subBlockOnes levelEnd widthBody countBody levelBody edgeBody blockBody subBlockBody encode test firstOf start4 start5 start6 endOf widthIn edgeCountIn edgesIn entryAlong entryIn fieldTests headTests tailTests readTests readingOf read refusal refusedOr tested answers fronts anyShort writes writesKey keyIn unusedSet keyTest belowTest batchKeys risingTests packTests batchEntry pack joinTests union difference opens contains indexOf keyAt rankAt lowerBound afterReading reading packCall unionCall differenceCall openCall containsCall indexOfCall keyAtCall rankCall lowerBoundCall allZero pathOf hasPath offsetsRight isCursorOf padded keyOf keyOfPath nextIndex hasNext nextKey stays goesTo goesToAfter staysOr advanceTests advance advanceReading advanceCall
 examples =
     record {
       p1 = refl;
@@ -47,7 +49,7 @@ examples =
     }
 
 pub further-examples : FurtherExamples
-unfolding tabulate join sameNumbers started bigEndian bigEndians bytesValue numberAt odd bitsValue byteOf packBits bitAt bitsIn front filter any sameKey less isPrefix allKeys members smaller setOf either without found recordOf level recordBits edgesBefore edges ones onesBefore rank edgeOffsets allSet present lastOf edgeIndex keyBytes keysOf count edgesOf edgeCount withSet ofWidth wrongWidth tooManyEdges field blockOnes subBlockOnes levelEnd widthBody countBody levelBody edgeBody blockBody subBlockBody encode test firstOf start4 start5 start6 endOf widthIn edgeCountIn edgesIn followed entryIn fieldTests headTests tailTests readTests readingOf read refusal refusedOr tested answers fronts anyShort writes writesKey keyIn unusedSet keyTest belowTest batchKeys risingTests packTests batchEntry pack joinTests union difference opens contains indexOf keyAt rankAt lowerBound afterReading reading packCall unionCall differenceCall openCall containsCall indexOfCall keyAtCall rankCall lowerBoundCall allZero pathOf offsetsRight isCursorOf padded keyOfPath nextIndex hasNext nextKey stays goesTo goesToAfter staysOr advanceTests advance advanceReading advanceCall
+unfolding tabulate flatten sameNumbers started bigEndian bigEndians bytesValue numberAt odd bitsValue byteOf packBits bitAt bitsIn front those anyOf sameKey less isPrefix allKeys members smaller setOf either without found recordOf level recordBits edgesBefore edges ones onesBefore rank edgeOffsets allSet present lastOf edgeIndex keyBytes keysOf count edgesOf edgeCount withSet ofWidth wrongWidth tooManyEdges field blockOnes subBlockOnes levelEnd widthBody countBody levelBody edgeBody blockBody subBlockBody encode test firstOf start4 start5 start6 endOf widthIn edgeCountIn edgesIn entryAlong entryIn fieldTests headTests tailTests readTests readingOf read refusal refusedOr tested answers fronts anyShort writes writesKey keyIn unusedSet keyTest belowTest batchKeys risingTests packTests batchEntry pack joinTests union difference opens contains indexOf keyAt rankAt lowerBound afterReading reading packCall unionCall differenceCall openCall containsCall indexOfCall keyAtCall rankCall lowerBoundCall allZero pathOf hasPath offsetsRight isCursorOf padded keyOf keyOfPath nextIndex hasNext nextKey stays goesTo goesToAfter staysOr advanceTests advance advanceReading advanceCall
 further-examples =
     record {
       width-0 = refl;
@@ -64,6 +66,7 @@ further-examples =
       second-sub-block = refl;
       one-sub-block = refl;
       two-sub-blocks = refl;
+      longest = refl;
       no-head = refl;
       short-body = refl;
       short-last = refl;
@@ -92,4 +95,7 @@ further-examples =
       step-short = refl;
       no-path = refl;
       unused-offset = refl;
+      nine-before-14 = refl;
+      eleven-before-12 = refl;
+      fifteen-before-14 = refl;
     }

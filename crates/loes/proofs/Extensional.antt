@@ -4,16 +4,17 @@ use Prim.Native.Nat.{ℕ, zero, suc}
 use mathlib.Core.Bool.{true, false}
 use mathlib.Core.List.{List, [], _∷_}
 use lib.ListN.{length}
-use Rattle.loes.specs.Keys.{Key, KeySet, allKeys, filter, members, any, isPrefix}
+use Rattle.loes.specs.Keys.{Key, KeySet, allKeys, those, members, anyOf, isPrefix}
 use Rattle.loes.specs.Edges.{recordOf, found, level, edges, edgesBefore}
-use Rattle.loes.proofs.Tree.{half, members-step}
+use Rattle.loes.specs.Prefixes.{half}
+use Rattle.loes.proofs.Tree.{members-step}
 
 -- two sets with the same keys of width m
 abbrev pub Agree : ℕ → KeySet → KeySet → Type 0
 Agree m s t = (k : Key) → length k ≡ m → s k ≡ t k
 
 pub members-ext : (m : ℕ) (s t : KeySet) → Agree m s t → members m s ≡ members m t
-members-ext zero s t h = unfold members allKeys filter in rw (h [] refl)
+members-ext zero s t h = unfold members allKeys those in rw (h [] refl)
 members-ext (suc m) s t h =
     rw (
       members-step m s,
@@ -24,7 +25,7 @@ members-ext (suc m) s t h =
 
 pub found-ext : (m : ℕ) (s t : KeySet) → Agree m s t → found m s ≡ found m t
 unfolding found
-found-ext m s t h = ap (λ (l : List Key). λ (p : Key). any (isPrefix p) l) (members-ext m s t h)
+found-ext m s t h = ap (λ (l : List Key). λ (p : Key). anyOf (isPrefix p) l) (members-ext m s t h)
 
 record-ext : (m : ℕ) (s t : KeySet) → Agree m s t → recordOf m s ≡ recordOf m t
 unfolding recordOf

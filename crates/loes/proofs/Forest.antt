@@ -8,7 +8,8 @@ use lib.ListN.{length, drop, getD, replicate, length-replicate}
 use Rattle.loes.specs.Bytes.{bit}
 use Rattle.loes.specs.Keys.{Key, KeySet}
 use Rattle.loes.specs.Edges.{Record, recordBits, ones, level}
-use Rattle.loes.proofs.Tree.{half, inhabited, rootRecord, treeLevel, tree-empty, level-tree}
+use Rattle.loes.specs.Prefixes.{half, inhabited}
+use Rattle.loes.proofs.Tree.{rootRecord, treeLevel, tree-empty, level-tree}
 
 -- what levels must be: the first of n records, none of them clear, and each next one of as many records as this has set bits
 abbrev pub NoEmpty : List Record → Type 0
@@ -55,14 +56,14 @@ build n [] = replicate n (λ (k : Key). true)
 build n (l ∷ ls) = graft l (build (ones (recordBits l)) ls)
 
 -- one tree over what its record takes from the forest
-pub record Step (m n : ℕ) (a b : Bool) (f : List KeySet) : Type 0 where
+pub record OneTree (m n : ℕ) (a b : Bool) (f : List KeySet) : Type 0 where
   pub there : inhabited (suc m) (over a b f) ≡ true
   pub top : treeLevel 0 (suc m) (over a b f) ≡ record { onZero = a; onOne = b } ∷ []
   pub deeper : (d : ℕ) → forestLevel d m f ≡ treeLevel (suc d) (suc m) (over a b f) ++ forestLevel d m (drop (bit a + bit b) f)
   pub left : AllHas m (drop (bit a + bit b) f)
   pub count : length (drop (bit a + bit b) f) ≡ n
 
-step : (m n : ℕ) (a b : Bool) (f : List KeySet) → (a || b) ≡ true → AllHas m f → length f ≡ bit a + bit b + n → Step m n a b f
+step : (m n : ℕ) (a b : Bool) (f : List KeySet) → (a || b) ≡ true → AllHas m f → length f ≡ bit a + bit b + n → OneTree m n a b f
 unfolding over branch half inhabited treeLevel forestLevel rootRecord
 step m n false false f o h l = absurd (false≢true o)
 step m n false true [] o h l = absurd (omega arith)
@@ -114,7 +115,7 @@ grafted m [] (x ∷ f) c h e = absurd (unfold ones recordBits in omega arith)
 grafted m (r ∷ l) f c h e =
     let a : Bool = r .onZero in
     let b : Bool = r .onOne in
-    let t : Step m (ones (recordBits l)) a b f = step m (ones (recordBits l)) a b f (c .0) h (e ∙ ones-cons a b l) in
+    let t : OneTree m (ones (recordBits l)) a b f = step m (ones (recordBits l)) a b f (c .0) h (e ∙ ones-cons a b l) in
     let g : Grafted m l (drop (bit a + bit b) f) = grafted m l (drop (bit a + bit b) f) (c .1) (t .left) (t .count) in
     record {
       all = (t .there, g .all);

@@ -2,7 +2,7 @@
 use mathlib.Core.Path.{_≡_, refl, sym, ap, ap₂, _∙_, fun-ext}
 use mathlib.Core.Logic.{_↔_}
 use Prim.Native.Nat.{ℕ, zero, suc, _≤_, _<_}
-use mathlib.Core.Bool.{Bool, true, false, _||_, not, false≢true}
+use mathlib.Core.Bool.{Bool, true, false, _||_, not, false≢true, or-false}
 use mathlib.Core.List.{List, [], _∷_, _++_, map}
 use mathlib.Core.Option.{Option, none, some}
 use native.Mathlib.Omega.{arith}
@@ -11,15 +11,16 @@ use lib.Seq.{take-append-seam}
 use lib.Dec.{eqb, ltb}
 use Rattle.loes.specs.Limits.{maxWidth, maxEdges}
 use Rattle.loes.specs.Bytes.{Bytes, front}
-use Rattle.loes.specs.Keys.{Key, KeySet, any, sameKey, sameBit, setOf, either, without}
+use Rattle.loes.specs.Keys.{Key, KeySet, anyOf, sameKey, sameBit, setOf, either, without}
 use Rattle.loes.specs.Entry.{Entry, SameEntry, withSet, edgeCount, wrongWidth, tooManyEdges, Valid}
 use Rattle.loes.specs.Encode.{encode}
-use Rattle.loes.specs.Refusals.{Tests, firstOf}
+use Rattle.loes.specs.Refusals.{Tests, test, firstOf}
 use Rattle.loes.specs.Read.{read}
-use Rattle.loes.specs.Model.{packTests, Answer, refused, wrote, wroteKey, indexIs, rankIs, isPresent, isAbsent, isNone, tells, Outcome, Step, refusal, refusedOr, tested, fronts, anyShort, writes, writesKey, answers, keyIn, batchKeys, batchEntry, joinTests, pack, union, difference, contains, indexOf, keyAt, rankAt, lowerBound}
+use Rattle.loes.specs.Model.{packTests, Answer, refused, wrote, wroteKey, indexIs, rankIs, isPresent, isAbsent, isNone, tells, Outcome, Step, refusal, refusedOr, tested, fronts, anyShort, writes, writesKey, answers, keyIn, batchKeys, batchEntry, joinTests, unionEntry, differenceEntry, pack, union, difference, contains, indexOf, keyAt, rankAt, lowerBound}
 use Rattle.loes.specs.Calls.{afterReading, reading, packCall, unionCall, differenceCall, containsCall, indexOfCall, keyAtCall, rankCall, lowerBoundCall}
-use Rattle.loes.specs.History.{Call, doPack, doUnion, doDifference, askContains, askIndexOf, askLowerBound, askKeyAt, askRank, atPlace, modelCall, addedBy, outcomeOf, modelFrom, modelSays, storeCall, cut, writtenWith, writtenBy, storeFrom, storeSays, modelAfter, storeAfter, noEntry, HistoriesAgree}
-use Rattle.loes.proofs.Tests.{no-lt, yes-eq, neither, not-false, both, none-append, none-test}
+use Rattle.loes.specs.History.{Call, doPack, doUnion, doDifference, askContains, askIndexOf, askLowerBound, askKeyAt, askRank, atPlace, modelCall, addedBy, outcomeOf, modelFrom, modelSays, storeCall, cut, writtenWith, writtenBy, storeFrom, storeSays, modelAfter, storeAfter}
+use Rattle.loes.specs.Demands.{Writes, noEntry, HistoriesAgree}
+use Rattle.loes.proofs.Tests.{lt-no, no-lt, yes-eq, neither, not-false, both, none-append, none-test, none-first}
 use Rattle.loes.proofs.Lists.{getD-map-in}
 use Rattle.loes.proofs.Bits.{length-bitsIn}
 use Rattle.loes.proofs.Reading.{read-encode, opened-inj}
@@ -102,11 +103,11 @@ abbrev pub AllValidIf : List Entry → Type 0
 AllValidIf [] = Unit {0}
 AllValidIf (e ∷ t) = (edgeCount e ≤ maxEdges → Valid e) × AllValidIf t
 
-all-valid : (es : List Entry) → AllValidIf es → any (λ (e : Entry). tooManyEdges (edgeCount e)) es ≡ false → AllValid es
-unfolding any tooManyEdges
+all-valid : (es : List Entry) → AllValidIf es → anyOf (λ (e : Entry). tooManyEdges (edgeCount e)) es ≡ false → AllValid es
+unfolding anyOf tooManyEdges
 all-valid [] h z = tt
 all-valid (e ∷ es) h z =
-    let r = neither (ltb maxEdges (edgeCount e)) (any (λ (e : Entry). tooManyEdges (edgeCount e)) es) z in
+    let r = neither (ltb maxEdges (edgeCount e)) (anyOf (λ (e : Entry). tooManyEdges (edgeCount e)) es) z in
     (h .0 (no-lt maxEdges (edgeCount e) (r .0)), all-valid es (h .1) (r .1))
 
 cut-fronts : (es : List Entry) (bufs : List Bytes) → anyShort (map encode es) bufs ≡ false
@@ -124,7 +125,7 @@ writes-kept ts es bufs f =
     tested-kept _ bufs _
     (λ z.
     let a = none-append ts _ z in
-    let b = none-test (any (λ (e : Entry). tooManyEdges (edgeCount e)) es) _ _ (a .1) in
+    let b = none-test (anyOf (λ (e : Entry). tooManyEdges (edgeCount e)) es) _ _ (a .1) in
     let c = none-test (anyShort (map encode es) bufs) _ _ (b .1) in
     (all-valid es (f (a .0)) (b .0), cut-fronts es bufs (c .0)))
 
@@ -161,13 +162,13 @@ pub length-key : (m : ℕ) (x : Bytes) → length (keyIn m x) ≡ m
 unfolding keyIn
 length-key m x = length-bitsIn x m
 
-batch-sized : (m : ℕ) (l : List Bytes) (k : Key) → any (sameKey k) (map (keyIn m) l) ≡ true → length k ≡ m
-unfolding any
+batch-sized : (m : ℕ) (l : List Bytes) (k : Key) → anyOf (sameKey k) (map (keyIn m) l) ≡ true → length k ≡ m
+unfolding anyOf
 batch-sized m [] k h = absurd (false≢true h)
 batch-sized m (x ∷ l) k h = go (batch-sized m l k) (sameKey k (keyIn m x)) refl h
   where
-    go : (any (sameKey k) (map (keyIn m) l) ≡ true → length k ≡ m)
-        → (b : Bool) → sameKey k (keyIn m x) ≡ b → (b || any (sameKey k) (map (keyIn m) l)) ≡ true → length k ≡ m
+    go : (anyOf (sameKey k) (map (keyIn m) l) ≡ true → length k ≡ m)
+        → (b : Bool) → sameKey k (keyIn m x) ≡ b → (b || anyOf (sameKey k) (map (keyIn m) l)) ≡ true → length k ≡ m
     go rest true z h = same-length k (keyIn m x) z ∙ length-key m x
     go rest false z h = rest h
 
@@ -195,21 +196,25 @@ valid-like : (e : Entry) (s : KeySet) → Valid e → ((k : Key) → s k ≡ tru
 unfolding withSet
 valid-like e s g h q = record { positive = g .positive; narrow = g .narrow; sized = h; few = q }
 
+union-valid : (e f : Entry) → Valid e → Valid f → firstOf (joinTests e f) ≡ none → edgeCount (unionEntry e f) ≤ maxEdges → Valid (unionEntry e f)
+unfolding either
+union-valid e f g h z =
+    valid-like e (either (e .set) (f .set)) g
+    (λ k i. or-else (e .set k) (f .set k) (length k ≡ e .width) (g .sized k) (λ j. h .sized k j ∙ sym (joined-same e f z)) i)
+
+difference-valid : (e f : Entry) → Valid e → edgeCount (differenceEntry e f) ≤ maxEdges → Valid (differenceEntry e f)
+unfolding without
+difference-valid e f g = valid-like e (without (e .set) (f .set)) g (λ k i. g .sized k (both (e .set k) (not (f .set k)) i .0))
+
 union-kept : (e f : Entry) (out : Bytes) → Valid e → Valid f → Kept (union e f out)
-unfolding union either
+unfolding union
 union-kept e f out g h =
-    writes-kept (joinTests e f) (withSet e (either (e .set) (f .set)) ∷ []) (out ∷ [])
-    (λ z. (
-      valid-like e (either (e .set) (f .set)) g
-          (λ k i. or-else (e .set k) (f .set k) (length k ≡ e .width) (g .sized k) (λ j. h .sized k j ∙ sym (joined-same e f z)) i),
-      tt,
-    ))
+    writes-kept (joinTests e f) (unionEntry e f ∷ []) (out ∷ []) (λ z. (union-valid e f g h z, tt))
 
 difference-kept : (e f : Entry) (out : Bytes) → Valid e → Valid f → Kept (difference e f out)
-unfolding difference without
+unfolding difference
 difference-kept e f out g h =
-    writes-kept (joinTests e f) (withSet e (without (e .set) (f .set)) ∷ []) (out ∷ [])
-    (λ z. (valid-like e (without (e .set) (f .set)) g (λ k i. g .sized k (both (e .set k) (not (f .set k)) i .0)), tt))
+    writes-kept (joinTests e f) (differenceEntry e f ∷ []) (out ∷ []) (λ z. (difference-valid e f g, tt))
 
 atPlace-kept : (t : List Entry) (i : ℕ) (q : Entry → Option Step) → AllValid t → ((e : Entry) → Valid e → KeptIf (q e)) → KeptIf (atPlace t i q)
 unfolding atPlace
@@ -227,6 +232,47 @@ call-kept t (askIndexOf i x) h = atPlace-kept t i _ h (λ e g. unfold indexOf in
 call-kept t (askLowerBound i x) h = atPlace-kept t i _ h (λ e g. unfold lowerBound in answers-kept _ _)
 call-kept t (askKeyAt i n out) h = atPlace-kept t i _ h (λ e g. unfold keyAt in key-kept _ _ _ out)
 call-kept t (askRank i o) h = atPlace-kept t i _ h (λ e g. unfold rankAt in answers-kept _ _)
+
+-- ---- What is accepted is written
+tested-only : (ts : Tests) (bufs : List Bytes) (done : Step) → ((k : ℕ) → tested ts bufs done .outcome .answer ≡ refused k → ⊥) → firstOf ts ≡ none
+unfolding tested
+tested-only ts bufs done h = go (firstOf ts) refl h
+  where
+    go : (o : Option ℕ) → firstOf ts ≡ o → ((k : ℕ) → refusedOr o bufs done .outcome .answer ≡ refused k → ⊥) → firstOf ts ≡ none
+    go none z h = z
+    go (some k) z h = unfold refusedOr refusal in absurd (h k refl)
+
+writes-one : (ts : Tests) (e : Entry) (out : Bytes) → (firstOf ts ≡ none → edgeCount e ≤ maxEdges → Valid e) → Writes ts e out (writes ts (e ∷ []) (out ∷ []) .outcome)
+unfolding writes tested fronts anyOf anyShort tooManyEdges
+writes-one ts e out f =
+    record {
+      turned = λ k z. rw (or-false (ltb maxEdges (edgeCount e)), or-false (ltb (length out) (length (encode e))), z) (unfold refusedOr refusal in refl);
+      accepted = λ z v r.
+          rw (none-first ts _ z, lt-no maxEdges (edgeCount e) (v .few), lt-no (length out) (length (encode e)) r)
+          (unfold firstOf test refusedOr in refl);
+      only = λ h.
+          let a = none-append ts _ (tested-only _ (out ∷ []) _ h) in
+          let b = none-test _ _ _ (a .1) in
+          let c = none-test _ _ _ (b .1) in
+          let few = neither (ltb maxEdges (edgeCount e)) false (b .0) in
+          let room = neither (ltb (length out) (length (encode e))) false (c .0) in
+          (a .0, f (a .0) (no-lt maxEdges (edgeCount e) (few .0)), no-lt (length out) (length (encode e)) (room .0));
+    }
+
+pub pack-writes : (m : ℕ) (batch out : Bytes) → Writes (packTests m batch) (batchEntry m batch) out (packCall m batch out)
+unfolding packCall pack packTests
+pack-writes m batch out = writes-one (packTests m batch) (batchEntry m batch) out (λ z. pack-valid m batch (none-test (wrongWidth m) _ _ z .0))
+
+pub union-writes : (e f : Entry) (out : Bytes) → Valid e → Valid f → Writes (joinTests e f) (unionEntry e f) out (unionCall (encode e) (encode f) out)
+unfolding unionCall union
+union-writes e f out g h =
+    rw (reading-encode e (out ∷ []) _ g, reading-encode f (out ∷ []) _ h) (writes-one (joinTests e f) (unionEntry e f) out (union-valid e f g h))
+
+pub difference-writes : (e f : Entry) (out : Bytes) → Valid e → Valid f → Writes (joinTests e f) (differenceEntry e f) out (differenceCall (encode e) (encode f) out)
+unfolding differenceCall difference
+difference-writes e f out g h =
+    rw (reading-encode e (out ∷ []) _ g, reading-encode f (out ∷ []) _ h)
+    (writes-one (joinTests e f) (differenceEntry e f) out (λ z. difference-valid e f g))
 
 -- ---- The whole list
 kept-encodes : (o : Option Step) → KeptIf o → writtenBy (outcomeOf o) ≡ map encode (addedBy o)
@@ -315,6 +361,6 @@ between g h i j p q =
 pub histories-agree : HistoriesAgree
 histories-agree =
     record {
-      one = λ h. record { outcomes = says-agree h [] tt; counts = sym (count-agree h); encodings = encodings-agree h };
+      one = λ h. record { outcomes = says-agree h [] tt; encodings = store-encodes h };
       two = λ g h. record { equal = between g h };
     }

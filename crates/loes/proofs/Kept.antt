@@ -10,10 +10,8 @@ use Rattle.loes.specs.Refusals.{Tests, firstOf}
 use Rattle.loes.specs.Read.{Reading, rejected, opened, read}
 use Rattle.loes.specs.Model.{Answer, refused, wrote, wroteKey, indexIs, rankIs, isPresent, isAbsent, isNone, tells, Outcome, Step, refusal, refusedOr, tested, writes, writesKey, pack, union, difference, keyAt}
 use Rattle.loes.specs.Calls.{afterReading, reading, packCall, unionCall, differenceCall, keyAtCall}
+use Rattle.loes.specs.Demands.{Keeps, RefusalsKeep}
 use Rattle.loes.specs.Cursor.{Cursor, Advanced, staysOr, stays, hasNext, nextKey, goesTo, goesToAfter, advance, advanceReading, advanceCall}
-
-abbrev pub Keeps : Outcome → List Bytes → Type 0
-Keeps o bufs = (k : ℕ) → o .answer ≡ refused k → o .buffers ≡ bufs
 
 abbrev Accepts : Answer → Type 0
 Accepts (refused k) = ⊥
@@ -50,13 +48,6 @@ key-keeps : (ts : Tests) (t : ℕ) (k : List Bool) (out : Bytes) → Keeps (writ
 unfolding writesKey
 key-keeps ts t k out = tested-keeps _ (out ∷ []) _ tt
 
-pub record RefusalsKeep : Type 0 where
-  pub pack : (m : ℕ) (batch out : Bytes) → Keeps (packCall m batch out) (out ∷ [])
-  pub union : (a b out : Bytes) → Keeps (unionCall a b out) (out ∷ [])
-  pub difference : (a b out : Bytes) → Keeps (differenceCall a b out) (out ∷ [])
-  pub keyAt : (a : Bytes) (i : ℕ) (out : Bytes) → Keeps (keyAtCall a i out) (out ∷ [])
-  pub advance : (a : Bytes) (p : Cursor) (out : Bytes) (k : ℕ) → advanceCall a p out .answer ≡ refused k → (advanceCall a p out .buffer ≡ out) × (advanceCall a p out .cursor ≡ p)
-
 if-keeps : (o : Option ℕ) (p : Cursor) (out : Bytes) (done : Advanced) → Accepts (done .answer) → (k : ℕ) → staysOr o p out done .answer ≡ refused k
     → (staysOr o p out done .buffer ≡ out) × (staysOr o p out done .cursor ≡ p)
 unfolding staysOr stays
@@ -76,7 +67,7 @@ refusals-keep =
       union = λ a b out. reading-keeps a (out ∷ []) _ (λ e. reading-keeps b (out ∷ []) _ (λ f. writes-keeps _ _ (out ∷ [])));
       difference = λ a b out. reading-keeps a (out ∷ []) _ (λ e. reading-keeps b (out ∷ []) _ (λ f. writes-keeps _ _ (out ∷ [])));
       keyAt = λ a i out. reading-keeps a (out ∷ []) _ (λ e. key-keeps _ _ _ out);
-      advance = λ a p out. given-keeps p out (read a);
+      step = λ a p out. given-keeps p out (read a);
     }
   where
     given-keeps : (p : Cursor) (out : Bytes) (r : Reading) (k : ℕ) → advanceReading r p out .answer ≡ refused k → (advanceReading r p out .buffer ≡ out) × (advanceReading r p out .cursor ≡ p)

@@ -1,15 +1,16 @@
 -- An encoding is bytes, and not many, so that what a history stores can be lent.
 use Prim.Native.Nat.{ℕ, zero, suc, _+_, _*_, _/_, _%_, _≤_, _<_}
 use mathlib.Core.Bool.{Bool, false}
-use mathlib.Core.List.{List, [], _∷_, _++_}
+use mathlib.Core.List.{List, [], _∷_, _++_, flatten}
 use native.Mathlib.Omega.{arith}
 use lib.ListN.{length, getD}
-use Rattle.loes.specs.Limits.{maxWidth, maxEdges, maxBytes, blockBits, subBlockBits}
-use Rattle.loes.specs.Bytes.{Bytes, tabulate, join, started, bigEndian, bigEndians, byteOf, packBits}
+use Rattle.loes.specs.Limits.{maxWidth, maxEdges, widthBytes, countBytes, levelEntry, blockEntry, subBlockEntry, maxBytes, blockBits, subBlockBits}
+use Rattle.loes.specs.Bytes.{Bytes, tabulate, started, bigEndian, bigEndians, byteOf, packBits}
 use Rattle.loes.specs.Entry.{Entry, count, edgesOf, edgeCount, Valid}
 use Rattle.loes.specs.Encode.{field, blockOnes, subBlockOnes, levelEnd, widthBody, countBody, levelBody, edgeBody, blockBody, subBlockBody, encode}
 use Rattle.loes.specs.Read.{start4, start5, start6, endOf}
-use Rattle.loes.specs.History.{Call, storeAfter, modelAfter, noEntry}
+use Rattle.loes.specs.History.{Call, storeAfter, modelAfter}
+use Rattle.loes.specs.Demands.{noEntry}
 use Rattle.loes.proofs.Bits.{bitsValue-lt}
 use Rattle.loes.proofs.Numbers.{AllBytes}
 use Rattle.loes.proofs.Reading.{encode-length}
@@ -43,14 +44,14 @@ unfolding field
 bytes-field t x h g = (h, bytes-append (bigEndian 2 (length x)) x (bytes-number 2 (length x)) g)
 
 pub encode-bytes : (e : Entry) → AllBytes (encode e)
-unfolding encode join widthBody countBody levelBody edgeBody blockBody subBlockBody
+unfolding encode flatten widthBody countBody levelBody edgeBody blockBody subBlockBody
 encode-bytes e =
-    bytes-append (field 1 (widthBody e)) _ (bytes-field 1 (widthBody e) (omega arith) (bytes-number 2 (e .width)))
-    (bytes-append (field 2 (countBody e)) _ (bytes-field 2 (countBody e) (omega arith) (bytes-number 4 (count e)))
-    (bytes-append (field 3 (levelBody e)) _ (bytes-field 3 (levelBody e) (omega arith) (bytes-numbers 4 (levelEnd e) (e .width)))
+    bytes-append (field 1 (widthBody e)) _ (bytes-field 1 (widthBody e) (omega arith) (bytes-number widthBytes (e .width)))
+    (bytes-append (field 2 (countBody e)) _ (bytes-field 2 (countBody e) (omega arith) (bytes-number countBytes (count e)))
+    (bytes-append (field 3 (levelBody e)) _ (bytes-field 3 (levelBody e) (omega arith) (bytes-numbers levelEntry (levelEnd e) (e .width)))
     (bytes-append (field 4 (edgeBody e)) _ (bytes-field 4 (edgeBody e) (omega arith) (bytes-packed (edgesOf e)))
-    (bytes-append (field 5 (blockBody e)) _ (bytes-field 5 (blockBody e) (omega arith) (bytes-numbers 8 (blockOnes (edgesOf e)) (started blockBits (edgeCount e))))
-    (bytes-append (field 6 (subBlockBody e)) [] (bytes-field 6 (subBlockBody e) (omega arith) (bytes-numbers 2 (subBlockOnes (edgesOf e)) (started subBlockBits (edgeCount e)))) tt)))))
+    (bytes-append (field 5 (blockBody e)) _ (bytes-field 5 (blockBody e) (omega arith) (bytes-numbers blockEntry (blockOnes (edgesOf e)) (started blockBits (edgeCount e))))
+    (bytes-append (field 6 (subBlockBody e)) [] (bytes-field 6 (subBlockBody e) (omega arith) (bytes-numbers subBlockEntry (subBlockOnes (edgesOf e)) (started subBlockBits (edgeCount e)))) tt)))))
 
 pub end-most : (m b : ℕ) → m ≤ maxWidth → b ≤ maxEdges → endOf m b ≤ maxBytes
 unfolding endOf start6 start5 start4 started

@@ -18,6 +18,9 @@ pub mod Histories
 pub mod Order
 pub mod Cursors
 pub mod Kept
+pub mod Walk
+pub mod Demands
 pub mod Lent
 pub mod Corollaries
 pub mod Examples
+pub mod Orders

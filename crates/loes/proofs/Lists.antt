@@ -6,37 +6,37 @@ use mathlib.Core.List.{List, [], _∷_, _++_, map}
 use native.Mathlib.Omega.{arith}
 use lib.ListN.{length, take, drop, getD, length-drop}
 use lib.Seq.{take-all}
-use Rattle.loes.specs.Keys.{filter, any}
+use Rattle.loes.specs.Keys.{those, anyOf}
 use Rattle.loes.specs.Edges.{Record, recordBits, ones}
 
-pub filter-append : {A : Type 0} (f : A → Bool) (l r : List A) → filter f (l ++ r) ≡ filter f l ++ filter f r
-unfolding filter
-filter-append f [] r = refl
-filter-append f (x ∷ l) r =
-    elim (f x) as (λ b. cond b (x ∷ filter f (l ++ r)) (filter f (l ++ r)) ≡ cond b (x ∷ filter f l) (filter f l) ++ filter f r)
-    [ true ↦ rw (filter-append f l r) | false ↦ filter-append f l r ]
+pub those-append : {A : Type 0} (f : A → Bool) (l r : List A) → those f (l ++ r) ≡ those f l ++ those f r
+unfolding those
+those-append f [] r = refl
+those-append f (x ∷ l) r =
+    elim (f x) as (λ b. cond b (x ∷ those f (l ++ r)) (those f (l ++ r)) ≡ cond b (x ∷ those f l) (those f l) ++ those f r)
+    [ true ↦ rw (those-append f l r) | false ↦ those-append f l r ]
 
-pub filter-map : {A B : Type 0} (f : B → Bool) (g : A → B) (l : List A) → filter f (map g l) ≡ map g (filter (λ x. f (g x)) l)
-unfolding filter
-filter-map f g [] = refl
-filter-map f g (x ∷ l) =
-    elim (f (g x)) as (λ b. cond b (g x ∷ filter f (map g l)) (filter f (map g l)) ≡ map g (cond b (x ∷ filter (λ x. f (g x)) l) (filter (λ x. f (g x)) l)))
-    [ true ↦ rw (filter-map f g l) | false ↦ filter-map f g l ]
+pub those-map : {A B : Type 0} (f : B → Bool) (g : A → B) (l : List A) → those f (map g l) ≡ map g (those (λ x. f (g x)) l)
+unfolding those
+those-map f g [] = refl
+those-map f g (x ∷ l) =
+    elim (f (g x)) as (λ b. cond b (g x ∷ those f (map g l)) (those f (map g l)) ≡ map g (cond b (x ∷ those (λ x. f (g x)) l) (those (λ x. f (g x)) l)))
+    [ true ↦ rw (those-map f g l) | false ↦ those-map f g l ]
 
-pub any-append : {A : Type 0} (f : A → Bool) (l r : List A) → any f (l ++ r) ≡ (any f l || any f r)
-unfolding any
-any-append f [] r = refl
-any-append f (x ∷ l) r = rw (any-append f l r) (sym (or-assoc (f x) (any f l) (any f r)))
+pub anyOf-append : {A : Type 0} (f : A → Bool) (l r : List A) → anyOf f (l ++ r) ≡ (anyOf f l || anyOf f r)
+unfolding anyOf
+anyOf-append f [] r = refl
+anyOf-append f (x ∷ l) r = rw (anyOf-append f l r) (sym (or-assoc (f x) (anyOf f l) (anyOf f r)))
 
-pub any-map : {A B : Type 0} (f : B → Bool) (g : A → B) (l : List A) → any f (map g l) ≡ any (λ x. f (g x)) l
-unfolding any
-any-map f g [] = refl
-any-map f g (x ∷ l) = rw (any-map f g l)
+pub anyOf-map : {A B : Type 0} (f : B → Bool) (g : A → B) (l : List A) → anyOf f (map g l) ≡ anyOf (λ x. f (g x)) l
+unfolding anyOf
+anyOf-map f g [] = refl
+anyOf-map f g (x ∷ l) = rw (anyOf-map f g l)
 
-pub any-none : {A : Type 0} (l : List A) → any (λ (x : A). false) l ≡ false
-unfolding any
-any-none [] = refl
-any-none (x ∷ l) = any-none l
+pub anyOf-none : {A : Type 0} (l : List A) → anyOf (λ (x : A). false) l ≡ false
+unfolding anyOf
+anyOf-none [] = refl
+anyOf-none (x ∷ l) = anyOf-none l
 
 pub ones-append : (l r : List Bool) → ones (l ++ r) ≡ ones l + ones r
 unfolding ones
@@ -54,22 +54,22 @@ unfolding recordBits
 length-bits [] = refl
 length-bits (x ∷ l) = rw (length-bits l) (omega arith)
 
-pub filter-none : {A : Type 0} (l : List A) → filter (λ (x : A). false) l ≡ []
-unfolding filter
-filter-none [] = refl
-filter-none (x ∷ l) = filter-none l
+pub those-none : {A : Type 0} (l : List A) → those (λ (x : A). false) l ≡ []
+unfolding those
+those-none [] = refl
+those-none (x ∷ l) = those-none l
 
-pub filter-all : {A : Type 0} (l : List A) → filter (λ (x : A). true) l ≡ l
-unfolding filter
-filter-all [] = refl
-filter-all (x ∷ l) = rw (filter-all l)
+pub those-all : {A : Type 0} (l : List A) → those (λ (x : A). true) l ≡ l
+unfolding those
+those-all [] = refl
+those-all (x ∷ l) = rw (those-all l)
 
-pub length-filter : {A : Type 0} (f : A → Bool) (l : List A) → length (filter f l) ≤ length l
-unfolding filter
-length-filter f [] = omega arith
-length-filter f (x ∷ l) =
-    elim (f x) as (λ b. length (cond b (x ∷ filter f l) (filter f l)) ≤ suc (length l))
-    [ true ↦ omega (arith, length-filter f l) | false ↦ omega (arith, length-filter f l) ]
+pub length-those : {A : Type 0} (f : A → Bool) (l : List A) → length (those f l) ≤ length l
+unfolding those
+length-those f [] = omega arith
+length-those f (x ∷ l) =
+    elim (f x) as (λ b. length (cond b (x ∷ those f l) (those f l)) ≤ suc (length l))
+    [ true ↦ omega (arith, length-those f l) | false ↦ omega (arith, length-those f l) ]
 
 pub getD-map-in : {A B : Type 0} (f : A → B) (l : List A) (i : ℕ) (d : A) (e : B) → i < length l → getD (map f l) i e ≡ f (getD l i d)
 getD-map-in f [] i d e h = absurd (omega arith)

@@ -8,11 +8,12 @@ use native.Mathlib.Decide.{decLe}
 use lib.ListN.{length, getD, length-append, length-map, List·getD-append}
 use lib.Seq.{getD-append-add}
 use Rattle.loes.specs.Bytes.{packBits, started}
-use Rattle.loes.specs.Keys.{Key, KeySet, allKeys, filter, members, smaller}
+use Rattle.loes.specs.Keys.{Key, KeySet, allKeys, those, members, smaller}
+use Rattle.loes.specs.Prefixes.{half, prefixesBefore}
 use Rattle.loes.specs.Entry.{Entry, keyBytes, keysOf, count}
 use Rattle.loes.proofs.Bytes.{length-packed}
 use Rattle.loes.proofs.Lists.{getD-map-in}
-use Rattle.loes.proofs.Tree.{half, members-step, length-members, prefixesBefore, before-smaller}
+use Rattle.loes.proofs.Tree.{members-step, length-members, before-smaller}
 
 pub record At (m : ℕ) (s : KeySet) (i : ℕ) : Type 0 where
   pub key : Key
@@ -23,11 +24,11 @@ pub record At (m : ℕ) (s : KeySet) (i : ℕ) : Type 0 where
 
 pub at-place : (m : ℕ) (s : KeySet) (i : ℕ) → i < length (members m s) → At m s i
 unfolding prefixesBefore half
-at-place zero s i h = go (s []) refl i (unfold members allKeys filter in h)
+at-place zero s i h = go (s []) refl i (unfold members allKeys those in h)
   where
     go : (b : Bool) → s [] ≡ b → (i : ℕ) → i < length {A = Key} (cond b ([] ∷ []) []) → At zero s i
     go false e i h = absurd (omega arith)
-    go true e zero h = record { key = []; here = unfold members allKeys filter in rw e; size = refl; inside = e; order = refl }
+    go true e zero h = record { key = []; here = unfold members allKeys those in rw e; size = refl; inside = e; order = refl }
     go true e (suc i) h = absurd (omega arith)
 at-place (suc m) s i h =
     let n : length (members (suc m) s) ≡ length (members m (half false s)) + length (members m (half true s)) =

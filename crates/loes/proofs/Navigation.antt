@@ -10,13 +10,9 @@ use lib.Seq.{take-append-le, take-append-add, getD-append-add}
 use Rattle.loes.specs.Bytes.{bit}
 use Rattle.loes.specs.Keys.{Key, KeySet, members, smaller}
 use Rattle.loes.specs.Edges.{level, recordBits, ones, edges, edgesBefore, rank, onesBefore, edgeOffsets, allSet, present, lastOf, edgeIndex}
+use Rattle.loes.specs.Prefixes.{inhabited, prefixCount, prefixesBefore, recordsBefore, recordIndex}
 use Rattle.loes.proofs.Lists.{ones-append, length-bits}
-use Rattle.loes.proofs.Tree.{inhabited, treeLevel, prefixCount, level-tree, ones-tree, length-tree, hasPrefix, prefixesBefore, before-lt, bit-le, edge-bit, edge-rank, length-snoc, prefix-shorter, prefix-inhabited, count-one, prefix-whole, prefix-of, false-if, prefix-start, tree-empty, before-smaller}
-
--- the records of the levels before d
-unfoldable pub recordsBefore : ℕ → ℕ → KeySet → ℕ
-recordsBefore zero m s = 0
-recordsBefore (suc d) m s = recordsBefore d m s + prefixCount d m s
+use Rattle.loes.proofs.Tree.{hasPrefix, treeLevel, level-tree, ones-tree, length-tree, before-lt, bit-le, edge-bit, edge-rank, length-snoc, prefix-shorter, prefix-inhabited, count-one, prefix-whole, prefix-of, false-if, prefix-start, tree-empty, before-smaller}
 
 pub length-edgesBefore : (d m : ℕ) (s : KeySet) → d ≤ m → length (edgesBefore d m s) ≡ 2 * recordsBefore d m s
 unfolding edgesBefore recordsBefore
@@ -45,10 +41,6 @@ unfolding edges edgesBefore
 edges-at d m s h =
     let e : (rest : List Bool) × (edgesBefore m m s ≡ edgesBefore (suc d) m s ++ rest) = edges-from (suc d) m m s h in
     (e .0, e .1 ∙ append-assoc (edgesBefore d m s) (recordBits (level d m s)) (e .0) ∙ rw (level-tree d m s h))
-
--- the record number of a prefix p
-unfoldable pub recordIndex : Key → ℕ → KeySet → ℕ
-recordIndex p m s = recordsBefore (length p) m s + prefixesBefore p m s
 
 module _ (p : Key) (b : Bool) (m : ℕ) (s : KeySet) (l : length p < m) where
   inside : hasPrefix p m s ≡ true → 2 * prefixesBefore p m s + bit b < length (recordBits (treeLevel (length p) m s))
@@ -80,16 +72,16 @@ pub follow : (p k : Key) (m : ℕ) (s : KeySet) → length (p ++ k) ≡ m → ha
 unfolding allSet edgeOffsets
 follow p [] m s l f = rw append-nil (sym (sym (prefix-whole p m s (rw append-nil at l)) ∙ f))
 follow p (b ∷ k) m s l f =
-    let anyShort : length p < m = omega (arith, simp length-append at l) in
+    let short : length p < m = omega (arith, simp length-append at l) in
     let l2 : length (p ++ b ∷ [] ++ k) ≡ m = rw append-assoc l in
-    rw (nav-bit p b m s anyShort f, ← append-assoc p (b ∷ []) k)
-    (go anyShort (hasPrefix (p ++ b ∷ []) m s) refl l2 (λ f2. follow (p ++ b ∷ []) k m s l2 f2))
+    rw (nav-bit p b m s short f, ← append-assoc p (b ∷ []) k)
+    (go short (hasPrefix (p ++ b ∷ []) m s) refl l2 (λ f2. follow (p ++ b ∷ []) k m s l2 f2))
   where
     go : length p < m → (c : Bool) → hasPrefix (p ++ b ∷ []) m s ≡ c → length (p ++ b ∷ [] ++ k) ≡ m
         → (hasPrefix (p ++ b ∷ []) m s ≡ true → allSet (edges m s) (edgeOffsets (edges m s) (recordIndex (p ++ b ∷ []) m s) k) ≡ s (p ++ b ∷ [] ++ k))
         → (c && allSet (edges m s) (edgeOffsets (edges m s) (rank (edges m s) (2 * recordIndex p m s + bit b)) k)) ≡ s (p ++ b ∷ [] ++ k)
-    go anyShort true e l2 ih = rw (nav-rank p b m s anyShort e) (ih e)
-    go anyShort false e l2 ih = sym (false-if (prefix-of (p ++ b ∷ []) k m s l2) e)
+    go short true e l2 ih = rw (nav-rank p b m s short e) (ih e)
+    go short false e l2 ih = sym (false-if (prefix-of (p ++ b ∷ []) k m s l2) e)
 
 edgesBefore-empty : (d m : ℕ) (s : KeySet) → inhabited m s ≡ false → d ≤ m → edgesBefore d m s ≡ []
 unfolding edgesBefore recordBits
@@ -124,8 +116,8 @@ pub last-rank : (p : Key) (b : Bool) (k : Key) (m : ℕ) (s : KeySet) → length
 unfolding edgeOffsets lastOf
 last-rank p b [] m s l f = nav-rank p b m s (omega (arith, simp length-append at l)) f
 last-rank p b (c ∷ k) m s l f =
-    let anyShort : length p < m = omega (arith, simp length-append at l) in
-    rw (nav-rank p b m s anyShort (prefix-start (p ++ b ∷ []) (c ∷ k) m s (rw append-assoc f)), ← append-assoc p (b ∷ []) (c ∷ k))
+    let short : length p < m = omega (arith, simp length-append at l) in
+    rw (nav-rank p b m s short (prefix-start (p ++ b ∷ []) (c ∷ k) m s (rw append-assoc f)), ← append-assoc p (b ∷ []) (c ∷ k))
     (last-rank (p ++ b ∷ []) c k m s (rw append-assoc l) (rw append-assoc f))
 
 -- the index that the edges give: how many members are smaller

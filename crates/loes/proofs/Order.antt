@@ -1,4 +1,4 @@
--- The order of keys: the answer of seek is the smallest key not below, and byte order and bit order agree.
+-- The order of keys: a lower bound is the smallest key not below, and byte order and bit order agree.
 use mathlib.Core.Path.{_≡_, refl, sym, ap, ap₂, _∙_}
 use Prim.Native.Nat.{ℕ, zero, suc, _+_, _-_, _*_, _/_, _%_, _^_, _≤_, _<_}
 use mathlib.Core.Bool.{Bool, true, false, _&&_, _||_, not, or-false, and-false, false≢true}
@@ -11,13 +11,14 @@ use lib.ListN.{length, getD, replicate, length-append, length-map}
 use lib.Seq.{drop-at}
 use lib.Dec.{ltb, leb·suc-zero}
 use Rattle.loes.specs.Bytes.{Bytes, bit, odd, bitAt, bitsIn, bitsValue, started, tabulate}
-use Rattle.loes.specs.Keys.{Key, KeySet, allKeys, any, filter, less, members, smaller}
+use Rattle.loes.specs.Keys.{Key, KeySet, allKeys, anyOf, those, less, members, smaller}
+use Rattle.loes.specs.Prefixes.{half, prefixesBefore}
 use Rattle.loes.specs.Entry.{Entry, keyBytes, keysOf, count}
 use Rattle.loes.specs.Refusals.{firstOf}
 use Rattle.loes.specs.Model.{isNone, indexIs, tested, refusedOr, answers, keyIn, unusedSet, keyTest, lowerBound}
 use Rattle.loes.proofs.Tests.{lt-yes, yes-lt, lt-no, no-lt, eq-yes, eq-no}
-use Rattle.loes.proofs.Lists.{filter-append, filter-map, filter-none, filter-all, length-filter}
-use Rattle.loes.proofs.Tree.{half, members-step, length-members, prefixesBefore, index-lt, bit-le}
+use Rattle.loes.proofs.Lists.{those-append, those-map, those-none, those-all, length-those}
+use Rattle.loes.proofs.Tree.{members-step, length-members, index-lt, bit-le}
 use Rattle.loes.proofs.Bytes.{length-tabulate}
 use Rattle.loes.proofs.Bits.{at-bit, byte-bitsValue, tabulate-ext, tabulate-add}
 use Rattle.loes.proofs.Numbers.{AllBytes}
@@ -42,21 +43,21 @@ less-nil (b ∷ j) = refl
 -- the members below a key, by its first bit: if it is 0, only some that begin with 0
 smaller-false : (k : Key) (m : ℕ) (s : KeySet) → smaller (false ∷ k) (members (suc m) s) ≡ smaller k (members m (half false s))
 unfolding smaller less
-smaller-false k m s = rw (members-step, filter-append) (simp (filter-map, filter-none, append-nil, length-map))
+smaller-false k m s = rw (members-step, those-append) (simp (those-map, those-none, append-nil, length-map))
 
 -- if it is 1, all that begin with 0 and some that begin with 1
 smaller-true : (k : Key) (m : ℕ) (s : KeySet)
     → smaller (true ∷ k) (members (suc m) s) ≡ length (members m (half false s)) + smaller k (members m (half true s))
 unfolding smaller less
-smaller-true k m s = rw (members-step, filter-append) (simp (filter-map, filter-all, length-append, length-map))
+smaller-true k m s = rw (members-step, those-append) (simp (those-map, those-all, length-append, length-map))
 
 -- a member is below k exactly if fewer members are below it than below k
 less-smaller : (x k : Key) (m : ℕ) (s : KeySet) → length x ≡ m → s x ≡ true → less x k ≡ ltb (prefixesBefore x m s) (smaller k (members m s))
 unfolding less prefixesBefore half
-less-smaller [] k zero s l h = unfold smaller members allKeys filter in rw h
+less-smaller [] k zero s l h = unfold smaller members allKeys those in rw h
 less-smaller [] k (suc m) s l h = absurd (omega arith)
 less-smaller (a ∷ x) k zero s l h = absurd (omega arith)
-less-smaller (a ∷ x) [] (suc m) s l h = unfold smaller in simp (less-nil, filter-none, leb·suc-zero)
+less-smaller (a ∷ x) [] (suc m) s l h = unfold smaller in simp (less-nil, those-none, leb·suc-zero)
 less-smaller (false ∷ x) (false ∷ k) (suc m) s l h = rw (smaller-false k m s) (less-smaller x k m (half false s) (omega arith) h)
 less-smaller (false ∷ x) (true ∷ k) (suc m) s l h =
     let q : prefixesBefore x m (half false s) < length (members m (half false s)) + smaller k (members m (half true s)) =
@@ -64,7 +65,7 @@ less-smaller (false ∷ x) (true ∷ k) (suc m) s l h =
     rw (smaller-true k m s) (sym (lt-yes _ _ q))
 less-smaller (true ∷ x) (false ∷ k) (suc m) s l h =
     let n : length x ≡ m = omega arith in
-    let f : smaller k (members m (half false s)) ≤ length (members m (half false s)) = unfold smaller in length-filter (λ j. less j k) _ in
+    let f : smaller k (members m (half false s)) ≤ length (members m (half false s)) = unfold smaller in length-those (λ j. less j k) _ in
     let q : smaller k (members m (half false s)) ≤ length (members m (half false s)) + prefixesBefore x m (half true s) = omega arith in
     rw (smaller-false k m s, n, ← length-members) (sym (lt-no _ _ q))
 less-smaller (true ∷ x) (true ∷ k) (suc m) s l h =
@@ -72,9 +73,9 @@ less-smaller (true ∷ x) (true ∷ k) (suc m) s l h =
     rw (smaller-true k m s, length-members, n, lt-add) (less-smaller x k m (half true s) n h)
 
 -- member j is below k exactly if j < smaller k: so that number is the index of the smallest member not below k, or the count if there is none
-pub seek-smallest : (e : Entry) (k : Key) (j : ℕ) → j < count e → less (getD (keysOf e) j []) k ≡ ltb j (smaller k (keysOf e))
+pub below-bound : (e : Entry) (k : Key) (j : ℕ) → j < count e → less (getD (keysOf e) j []) k ≡ ltb j (smaller k (keysOf e))
 unfolding count keysOf
-seek-smallest e k j h =
+below-bound e k j h =
     let r = at-place (e .width) (e .set) j h in
     rw (r .here) (less-smaller (r .key) k (e .width) (e .set) (r .size) (r .inside) ∙ ap (λ i. ltb i (smaller k (members (e .width) (e .set)))) (r .order))
 
@@ -83,28 +84,28 @@ smaller-least : (e : Entry) (k : Key) (i : ℕ) → i ≤ count e → ((j : ℕ)
 smaller-least e k i l h =
     let n : ℕ = smaller k (keysOf e) in
     elim (decLe (suc n) i) [
-      | yes d ↦ let z : n < n = yes-lt n n (sym (seek-smallest e k n (omega arith)) ∙ h n d) in absurd (omega arith)
+      | yes d ↦ let z : n < n = yes-lt n n (sym (below-bound e k n (omega arith)) ∙ h n d) in absurd (omega arith)
       | no d ↦ omega arith
     ]
 
 -- document 01, seek: the index of the smallest member not below the key, which is the one that has only members below the key before it
-pub seek-index : (e : Entry) (x : Bytes) (i : ℕ) → keyTest e x ≡ none → i < count e → less (getD (keysOf e) i []) (keyIn (e .width) x) ≡ false
+pub bound-index : (e : Entry) (x : Bytes) (i : ℕ) → keyTest e x ≡ none → i < count e → less (getD (keysOf e) i []) (keyIn (e .width) x) ≡ false
     → ((j : ℕ) → j < i → less (getD (keysOf e) j []) (keyIn (e .width) x) ≡ true) → lowerBound e x .outcome .answer ≡ indexIs i
 unfolding lowerBound answers tested refusedOr firstOf
-seek-index e x i t l f h =
+bound-index e x i t l f h =
     let k : Key = keyIn (e .width) x in
-    let a : smaller k (keysOf e) ≤ i = no-lt i (smaller k (keysOf e)) (sym (seek-smallest e k i l) ∙ f) in
+    let a : smaller k (keysOf e) ≤ i = no-lt i (smaller k (keysOf e)) (sym (below-bound e k i l) ∙ f) in
     let b : i ≤ smaller k (keysOf e) = smaller-least e k i (omega arith) h in
     let n : smaller k (keysOf e) ≡ i = omega arith in
     rw (t, n, eq-no i (count e) (λ z. omega arith))
 
 -- or none, if all members are below the key
-pub seek-none : (e : Entry) (x : Bytes) → keyTest e x ≡ none → ((j : ℕ) → j < count e → less (getD (keysOf e) j []) (keyIn (e .width) x) ≡ true)
+pub bound-none : (e : Entry) (x : Bytes) → keyTest e x ≡ none → ((j : ℕ) → j < count e → less (getD (keysOf e) j []) (keyIn (e .width) x) ≡ true)
     → lowerBound e x .outcome .answer ≡ isNone
 unfolding lowerBound answers tested refusedOr firstOf count smaller
-seek-none e x t h =
+bound-none e x t h =
     let k : Key = keyIn (e .width) x in
-    let a : smaller k (keysOf e) ≤ count e = length-filter (λ j. less j k) (keysOf e) in
+    let a : smaller k (keysOf e) ≤ count e = length-those (λ j. less j k) (keysOf e) in
     let b : count e ≤ smaller k (keysOf e) = smaller-least e k (count e) (omega arith) h in
     let n : smaller k (keysOf e) ≡ count e = omega arith in
     rw (t, n, eq-yes (count e))
@@ -197,8 +198,8 @@ less-bytes (a ∷ x) (b ∷ y) l h i =
     )
 
 -- bits of which none is set are zeros
-all-clear : (u : List Bool) → any (λ (b : Bool). b) u ≡ false → u ≡ replicate (length u) false
-unfolding any
+all-clear : (u : List Bool) → anyOf (λ (b : Bool). b) u ≡ false → u ≡ replicate (length u) false
+unfolding anyOf
 all-clear [] h = refl
 all-clear (false ∷ u) h = ap (λ v. false ∷ v) (all-clear u h)
 all-clear (true ∷ u) h = absurd (false≢true (sym h))

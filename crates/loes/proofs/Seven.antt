@@ -3,26 +3,26 @@ use mathlib.Core.Path.{_≡_, refl, sym, ap, ap₂, _∙_, subst}
 use mathlib.Core.Logic.{_↔_}
 use Prim.Native.Nat.{ℕ, zero, suc, _+_, _-_, _*_, _/_, _%_, _≤_, _<_}
 use mathlib.Core.Bool.{Bool, true, false, not}
-use mathlib.Core.List.{List, [], _∷_, _++_, append-assoc}
+use mathlib.Core.List.{List, [], _∷_, _++_, append-assoc, flatten}
 use mathlib.Core.Option.{none}
 use native.Mathlib.Omega.{arith}
 use native.Mathlib.Numerals.{add-one}
 use lib.ListN.{length, take, drop, getD, length-append, length-drop, take-append-drop, drop-of-length-le}
 use lib.Seq.{take-at, drop-drop, drop-cons, length-take-le}
 use lib.Dec.{eqb, ltb}
-use Rattle.loes.specs.Limits.{blockBits, subBlockBits}
-use Rattle.loes.specs.Bytes.{Bytes, bit, join, started, bigEndian, numberAt}
+use Rattle.loes.specs.Limits.{blockBits, subBlockBits, headBytes, widthBytes, countBytes, levelEntry, blockEntry, subBlockEntry}
+use Rattle.loes.specs.Bytes.{Bytes, bit, started, bigEndian, numberAt}
 use Rattle.loes.specs.Keys.{members}
 use Rattle.loes.specs.Edges.{level, recordBits, edgesBefore, edges, ones, onesBefore}
 use Rattle.loes.specs.Entry.{Entry, keysOf, count, edgesOf, edgeCount, Valid}
 use Rattle.loes.specs.Encode.{field, blockOnes, subBlockOnes, levelEnd, widthBody, countBody, levelBody, edgeBody, blockBody, subBlockBody, encode}
 use Rattle.loes.specs.Refusals.{firstOf}
-use Rattle.loes.specs.Read.{levelBytes, edgeBytes, blockBytes, subBlockBytes, start2, start3, start4, start5, start6, endOf, widthIn, edgeCountIn, followed, entryIn, fieldTests}
+use Rattle.loes.specs.Read.{levelBytes, edgeBytes, blockBytes, subBlockBytes, bodyAt, start2, start3, start4, start5, start6, endOf, widthIn, levelAt, blockAt, subBlockAt, edgeCountIn, entryAlong, entryIn, fieldTests}
 use Rattle.loes.proofs.Tests.{yes-eq, not-false, none-test}
 use Rattle.loes.proofs.Numbers.{AllBytes, number-at, numbers-at, number-is, numbers-are}
 use Rattle.loes.proofs.Navigation.{edges-from}
 use Rattle.loes.proofs.Corollaries.{ones-last}
-use Rattle.loes.proofs.Reading.{body-at, Laid, laid, length-edges, bits-read, field-fits, Passed, valid-passed}
+use Rattle.loes.proofs.Reading.{body-at, FieldsLaid, laid, length-edges, bits-read, field-fits, Passed, valid-passed}
 
 -- ---- The numbers of an entry fit their bytes
 pub ones-le : (l : List Bool) → ones l ≤ length l
@@ -70,85 +70,85 @@ level-le e d h =
 -- ---- The numbers in bytes are those of an entry
 pub record Agrees (l : Bytes) (e : Entry) : Type 0 where
   pub bits : edgeCountIn l ≡ edgeCount e
-  pub count : numberAt 4 l (start2 + 3) ≡ count e
-  pub levels : (d : ℕ) → d < e .width → numberAt 4 l (start3 + 3 + 4 * d) ≡ levelEnd e d
-  pub edges : take (edgeBytes (edgeCount e)) (drop (start4 (e .width) + 3) l) ≡ edgeBody e
+  pub count : numberAt countBytes l (bodyAt start2) ≡ count e
+  pub levels : (d : ℕ) → d < e .width → levelAt l d ≡ levelEnd e d
+  pub edges : take (edgeBytes (edgeCount e)) (drop (bodyAt (start4 (e .width))) l) ≡ edgeBody e
   pub blocks : (j : ℕ) → j < started blockBits (edgeCount e)
-      → numberAt 8 l (start5 (e .width) (edgeCount e) + 3 + 8 * j) ≡ blockOnes (edgesOf e) j
+      → blockAt l (bodyAt (start5 (e .width) (edgeCount e))) j ≡ blockOnes (edgesOf e) j
   pub subBlocks : (j : ℕ) → j < started subBlockBits (edgeCount e)
-      → numberAt 2 l (start6 (e .width) (edgeCount e) + 3 + 2 * j) ≡ subBlockOnes (edgesOf e) j
+      → subBlockAt l (bodyAt (start6 (e .width) (edgeCount e))) j ≡ subBlockOnes (edgesOf e) j
 
 pub encode-agrees : (e : Entry) → Valid e → Agrees (encode e) e
 unfolding countBody levelBody blockBody subBlockBody
 encode-agrees e v =
     let l : Bytes = encode e in
-    let p : Laid l e = laid e in
+    let p : FieldsLaid l e = laid e in
     let m : ℕ = e .width in
     let b : ℕ = edgeCount e in
     let small : edgeCount e ≤ 524280 = v .few in
     record {
       bits = bits-read e v;
-      count = number-at 4 (count e) l _ (start2 + 3) (omega (arith, count-le e (v .positive))) (body-at 2 (countBody e) l start2 (p .field2));
-      levels = λ d h. numbers-at 4 (levelEnd e) m d l _ (start3 + 3) h (omega (arith, level-le e d h)) (body-at 3 (levelBody e) l start3 (p .field3));
+      count = number-at countBytes (count e) l _ (bodyAt start2) (omega (arith, count-le e (v .positive))) (body-at 2 (countBody e) l start2 (p .field2));
+      levels = λ d h. numbers-at levelEntry (levelEnd e) m d l _ (bodyAt start3) h (omega (arith, level-le e d h)) (body-at 3 (levelBody e) l start3 (p .field3));
       edges = rw (body-at 4 (edgeBody e) l (start4 m) (p .field4)) (take-at (edgeBody e) _ (edgeBytes b) (length-edges e));
       blocks = λ j h.
-          numbers-at 8 (blockOnes (edgesOf e)) (started blockBits b) j l _ (start5 m b + 3) h
+          numbers-at blockEntry (blockOnes (edgesOf e)) (started blockBits b) j l _ (bodyAt (start5 m b)) h
           (unfold blockOnes edgeCount in omega (arith, before-le (edgesOf e) (65536 * j) .1, v .few)) (body-at 5 (blockBody e) l (start5 m b) (p .field5));
       subBlocks = λ j h.
-          numbers-at 2 (subBlockOnes (edgesOf e)) (started subBlockBits b) j l _ (start6 m b + 3) h
+          numbers-at subBlockEntry (subBlockOnes (edgesOf e)) (started subBlockBits b) j l _ (bodyAt (start6 m b)) h
           (omega (arith, subBlock-small (edgesOf e) j)) (body-at 6 (subBlockBody e) l (start6 m b) (p .field6));
     }
 
 -- ---- Bytes whose numbers agree are the encoding
 pub field-front : (t n : ℕ) (l : Bytes) (at : ℕ) → AllBytes l → firstOf (fieldTests t n l at) ≡ none
-    → drop at l ≡ field t (take n (drop (at + 3) l)) ++ drop (at + 3 + n) l
+    → drop at l ≡ field t (take n (drop (bodyAt at) l)) ++ drop (bodyAt at + n) l
 unfolding field fieldTests
 field-front t n l at h z =
-    let r2 = none-test (not (eqb (getD l at 0) t)) _ _ (none-test (ltb (length l - at) 3) _ _ z .1) in
+    let r2 = none-test (not (eqb (getD l at 0) t)) _ _ (none-test (ltb (length l - at) headBytes) _ _ z .1) in
     let r3 = none-test (not (eqb (numberAt 2 l (at + 1)) n)) _ _ (r2 .1) in
     let a : getD l at 0 ≡ t = yes-eq (getD l at 0) t (not-false (eqb (getD l at 0) t) (r2 .0)) in
     let c : numberAt 2 l (at + 1) ≡ n = yes-eq (numberAt 2 l (at + 1)) n (not-false (eqb (numberAt 2 l (at + 1)) n) (r3 .0)) in
-    let f : at + 3 + n ≤ length l = field-fits t n l at z in
-    let body : Bytes = take n (drop (at + 3) l) in
-    let x : Bytes = drop (at + 3 + n) l in
-    let lb : length (take n (drop (at + 3) l)) ≡ n = length-take-le n (drop (at + 3) l) (omega (arith, length-drop (at + 3) l)) in
-    let s : at + 1 + 2 ≡ at + 3 = omega arith in
+    let f : bodyAt at + n ≤ length l = field-fits t n l at z in
+    let body : Bytes = take n (drop (bodyAt at) l) in
+    let x : Bytes = drop (bodyAt at + n) l in
+    let lb : length (take n (drop (bodyAt at) l)) ≡ n = length-take-le n (drop (bodyAt at) l) (omega (arith, length-drop (bodyAt at) l)) in
+    let s : at + 1 + 2 ≡ bodyAt at = omega arith in
     let i : at < length l = omega arith in
     let d0 : drop at l ≡ t ∷ drop (at + 1) l = drop-cons l at 0 i ∙ rw (a, add-one) in
-    let d1 : drop (at + 1) l ≡ bigEndian 2 n ++ drop (at + 3) l =
+    let d1 : drop (at + 1) l ≡ bigEndian 2 n ++ drop (bodyAt at) l =
     sym (take-append-drop 2 (drop (at + 1) l))
     ∙ ap₂ _++_ (number-is 2 l (at + 1) (omega arith) h ∙ ap (bigEndian 2) c) (drop-drop 2 (at + 1) l ∙ ap (λ j. drop j l) s) in
-    let d2 : drop (at + 3) l ≡ body ++ x = sym (take-append-drop n (drop (at + 3) l)) ∙ ap (λ y. body ++ y) (drop-drop n (at + 3) l) in
+    let d2 : drop (bodyAt at) l ≡ body ++ x = sym (take-append-drop n (drop (bodyAt at) l)) ∙ ap (λ y. body ++ y) (drop-drop n (bodyAt at) l) in
     let e : t ∷ (bigEndian 2 n ++ (body ++ x)) ≡ t ∷ ((bigEndian 2 (length body) ++ body) ++ x) = rw lb (ap (λ y. t ∷ y) (sym (append-assoc (bigEndian 2 n) body x))) in
     d0 ∙ ap (λ y. t ∷ y) (d1 ∙ ap (λ y. bigEndian 2 n ++ y) d2) ∙ e
 
 pub agrees-encode : (l : Bytes) → AllBytes l → Passed l → Agrees l (entryIn l) → l ≡ encode (entryIn l)
-unfolding encode join start4 start5 start6 endOf countBody levelBody blockBody subBlockBody
+unfolding encode flatten start4 start5 start6 endOf countBody levelBody blockBody subBlockBody
 agrees-encode l h p g =
     let e : Entry = entryIn l in
     let m : ℕ = entryIn l .width in
     let b : ℕ = edgeCount (entryIn l) in
-    let w : widthIn l ≡ entryIn l .width = unfold entryIn followed in refl in
-    let z3 : m * 4 ≡ levelBytes m = omega arith in
-    let z5 : started blockBits b * 8 ≡ blockBytes b = omega arith in
-    let z6 : started subBlockBits b * 2 ≡ subBlockBytes b = omega arith in
+    let w : widthIn l ≡ entryIn l .width = unfold entryIn entryAlong in refl in
+    let z3 : m * levelEntry ≡ levelBytes m = omega arith in
+    let z5 : started blockBits b * blockEntry ≡ blockBytes b = omega arith in
+    let z6 : started subBlockBits b * subBlockEntry ≡ subBlockBytes b = omega arith in
     let t3 = rw w at (p .field3) in
     let t4 = rw (w, g .bits) at (p .field4) in
     let t5 = rw (w, g .bits) at (p .field5) in
     let t6 = rw (w, g .bits) at (p .field6) in
-    let r5 : start5 m b + 3 + started blockBits b * 8 ≤ length l = rw z5 (field-fits 5 (blockBytes b) l (start5 m b) t5) in
-    let r6 : start6 m b + 3 + started subBlockBits b * 2 ≤ length l = rw z6 (field-fits 6 (subBlockBytes b) l (start6 m b) t6) in
-    let b1 : take 2 (drop 3 l) ≡ widthBody e = number-is 2 l 3 (field-fits 1 2 l 0 (p .field1)) h ∙ unfold widthBody entryIn followed widthIn in refl in
-    let b2 : take 4 (drop (start2 + 3) l) ≡ countBody e = number-is 4 l (start2 + 3) (field-fits 2 4 l start2 (p .field2)) h ∙ ap (bigEndian 4) (g .count) in
-    let b3 : take (levelBytes m) (drop (start3 + 3) l) ≡ levelBody e =
-    rw z3 at (numbers-are 4 m (levelEnd e) l (start3 + 3) (rw z3 (field-fits 3 (levelBytes m) l start3 t3)) h (g .levels)) in
-    let b5 : take (blockBytes b) (drop (start5 m b + 3) l) ≡ blockBody e =
-    rw z5 at (numbers-are 8 (started blockBits b) (blockOnes (edgesOf e)) l (start5 m b + 3) r5 h (g .blocks)) in
-    let b6 : take (subBlockBytes b) (drop (start6 m b + 3) l) ≡ subBlockBody e =
-    rw z6 at (numbers-are 2 (started subBlockBits b) (subBlockOnes (edgesOf e)) l (start6 m b + 3) r6 h (g .subBlocks)) in
+    let r5 : bodyAt (start5 m b) + started blockBits b * blockEntry ≤ length l = rw z5 (field-fits 5 (blockBytes b) l (start5 m b) t5) in
+    let r6 : bodyAt (start6 m b) + started subBlockBits b * subBlockEntry ≤ length l = rw z6 (field-fits 6 (subBlockBytes b) l (start6 m b) t6) in
+    let b1 : take widthBytes (drop (bodyAt 0) l) ≡ widthBody e = number-is widthBytes l (bodyAt 0) (field-fits 1 widthBytes l 0 (p .field1)) h ∙ unfold widthBody entryIn entryAlong widthIn in refl in
+    let b2 : take countBytes (drop (bodyAt start2) l) ≡ countBody e = number-is countBytes l (bodyAt start2) (field-fits 2 countBytes l start2 (p .field2)) h ∙ ap (bigEndian countBytes) (g .count) in
+    let b3 : take (levelBytes m) (drop (bodyAt start3) l) ≡ levelBody e =
+    rw z3 at (numbers-are levelEntry m (levelEnd e) l (bodyAt start3) (rw z3 (field-fits 3 (levelBytes m) l start3 t3)) h (g .levels)) in
+    let b5 : take (blockBytes b) (drop (bodyAt (start5 m b)) l) ≡ blockBody e =
+    rw z5 at (numbers-are blockEntry (started blockBits b) (blockOnes (edgesOf e)) l (bodyAt (start5 m b)) r5 h (g .blocks)) in
+    let b6 : take (subBlockBytes b) (drop (bodyAt (start6 m b)) l) ≡ subBlockBody e =
+    rw z6 at (numbers-are subBlockEntry (started subBlockBits b) (subBlockOnes (edgesOf e)) l (bodyAt (start6 m b)) r6 h (g .subBlocks)) in
     let rest : drop (endOf m b) l ≡ [] = drop-of-length-le l {i = endOf m b} (omega (arith, rw (w, g .bits) at (p .ends))) in
-    field-front 1 2 l 0 h (p .field1) ∙ ap₂ (λ x y. field 1 x ++ y) b1
-    (field-front 2 4 l start2 h (p .field2) ∙ ap₂ (λ x y. field 2 x ++ y) b2
+    field-front 1 widthBytes l 0 h (p .field1) ∙ ap₂ (λ x y. field 1 x ++ y) b1
+    (field-front 2 countBytes l start2 h (p .field2) ∙ ap₂ (λ x y. field 2 x ++ y) b2
     (field-front 3 (levelBytes m) l start3 h t3 ∙ ap₂ (λ x y. field 3 x ++ y) b3
     (field-front 4 (edgeBytes b) l (start4 m) h t4 ∙ ap₂ (λ x y. field 4 x ++ y) (g .edges)
     (field-front 5 (blockBytes b) l (start5 m b) h t5 ∙ ap₂ (λ x y. field 5 x ++ y) b5

@@ -7,19 +7,11 @@ use native.Mathlib.Omega.{arith}
 use lib.ListN.{length, take, getD, length-append, length-map, List·getD-append}
 use lib.Seq.{take-append-le, take-append-add, getD-append-add}
 use Rattle.loes.specs.Bytes.{bit}
-use Rattle.loes.specs.Keys.{Key, KeySet, allKeys, filter, any, members, isPrefix, less, smaller}
+use Rattle.loes.specs.Keys.{Key, KeySet, allKeys, those, anyOf, members, isPrefix, less, smaller}
 use Rattle.loes.specs.Edges.{recordOf, found, level, Record, recordBits, ones}
+use Rattle.loes.specs.Prefixes.{half, inhabited, prefixCount, prefixesBefore}
 use Rattle.loes.proofs.Tests.{neither}
-use Rattle.loes.proofs.Lists.{filter-append, filter-map, any-append, any-map, any-none, ones-append, bits-append, length-bits, filter-none, filter-all, getD-map-in}
-
--- the keys of a set that begin with b, without that bit
-unfoldable pub half : Bool → KeySet → KeySet
-half b s k = s (b ∷ k)
-
--- the set has a member of m bits
-unfoldable pub inhabited : ℕ → KeySet → Bool
-inhabited zero s = s []
-inhabited (suc m) s = inhabited m (half false s) || inhabited m (half true s)
+use Rattle.loes.proofs.Lists.{those-append, those-map, anyOf-append, anyOf-map, anyOf-none, ones-append, bits-append, length-bits, those-none, those-all, getD-map-in}
 
 unfoldable pub rootRecord : Bool → Bool → List Record
 rootRecord a b = cond (a || b) (record { onZero = a; onOne = b } ∷ []) []
@@ -30,39 +22,33 @@ treeLevel zero (suc m) s = rootRecord (inhabited m (half false s)) (inhabited m 
 treeLevel (suc d) zero s = []
 treeLevel (suc d) (suc m) s = treeLevel d m (half false s) ++ treeLevel d m (half true s)
 
--- how many prefixes of d bits are found
-unfoldable pub prefixCount : ℕ → ℕ → KeySet → ℕ
-prefixCount zero m s = bit (inhabited m s)
-prefixCount (suc d) zero s = 0
-prefixCount (suc d) (suc m) s = prefixCount d m (half false s) + prefixCount d m (half true s)
-
 -- ---- the specification's definitions, by the first bit
 pub members-step : (m : ℕ) (s : KeySet)
     → members (suc m) s ≡ map (λ (k : Key). false ∷ k) (members m (half false s)) ++ map (λ (k : Key). true ∷ k) (members m (half true s))
 unfolding members half allKeys
-members-step m s = simp (filter-append, filter-map)
+members-step m s = simp (those-append, those-map)
 
-one-key : (b : Bool) → any (isPrefix []) (cond b ([] ∷ []) []) ≡ b
-unfolding any isPrefix
+one-key : (b : Bool) → anyOf (isPrefix []) (cond b ([] ∷ []) []) ≡ b
+unfolding anyOf isPrefix
 one-key true = refl
 one-key false = refl
 
 pub found-nil : (m : ℕ) (s : KeySet) → found m s [] ≡ inhabited m s
-unfolding found inhabited isPrefix members filter allKeys
+unfolding found inhabited isPrefix members those allKeys
 found-nil zero s = one-key (s [])
-found-nil (suc m) s = simp (members-step, any-append, any-map) (ap₂ _||_ (found-nil m (half false s)) (found-nil m (half true s)))
+found-nil (suc m) s = simp (members-step, anyOf-append, anyOf-map) (ap₂ _||_ (found-nil m (half false s)) (found-nil m (half true s)))
 
 pub found-false : (m : ℕ) (s : KeySet) (p : Key) → found (suc m) s (false ∷ p) ≡ found m (half false s) p
 unfolding found isPrefix
-found-false m s p = simp (members-step, any-append, any-map, any-none, or-false)
+found-false m s p = simp (members-step, anyOf-append, anyOf-map, anyOf-none, or-false)
 
 pub found-true : (m : ℕ) (s : KeySet) (p : Key) → found (suc m) s (true ∷ p) ≡ found m (half true s) p
 unfolding found isPrefix
-found-true m s p = simp (members-step, any-append, any-map, any-none)
+found-true m s p = simp (members-step, anyOf-append, anyOf-map, anyOf-none)
 
 pub level-step : (d m : ℕ) (s : KeySet) → level (suc d) (suc m) s ≡ level d m (half false s) ++ level d m (half true s)
 unfolding level recordOf allKeys
-level-step d m s = simp (filter-append, filter-map, map-append, map-map, found-false, found-true)
+level-step d m s = simp (those-append, those-map, map-append, map-map, found-false, found-true)
 
 -- level 0
 map-cond : {A B : Type 0} (f : A → B) (b : Bool) (l r : List A) → map f (cond b l r) ≡ cond b (map f l) (map f r)
@@ -70,7 +56,7 @@ map-cond f true l r = refl
 map-cond f false l r = refl
 
 level-zero : (m : ℕ) (s : KeySet) → level 0 (suc m) s ≡ treeLevel 0 (suc m) s
-unfolding level recordOf allKeys treeLevel rootRecord filter inhabited
+unfolding level recordOf allKeys treeLevel rootRecord those inhabited
 level-zero m s = simp (map-cond, found-false, found-true, found-nil)
 
 pub level-tree : (d m : ℕ) (s : KeySet) → d < m → level d m s ≡ treeLevel d m s
@@ -115,36 +101,29 @@ length-one true = refl
 length-one false = refl
 
 pub length-members : (m : ℕ) (s : KeySet) → length (members m s) ≡ prefixCount m m s
-unfolding prefixCount members filter allKeys inhabited
+unfolding prefixCount members those allKeys inhabited
 length-members zero s = length-one (s [])
 length-members (suc m) s =
     rw members-step (simp (length-append, length-map) (ap₂ _+_ (length-members m (half false s)) (length-members m (half true s))))
 
 -- ---- Prefixes
--- some member begins with p
+-- some member begins with p: `found`, by the first bit
 unfoldable pub hasPrefix : Key → ℕ → KeySet → Bool
 hasPrefix [] m s = inhabited m s
 hasPrefix (b ∷ p) zero s = false
 hasPrefix (b ∷ p) (suc m) s = hasPrefix p m (half b s)
 
-no-key : (c : Bool) (b : Bool) (p : Key) → any (isPrefix (b ∷ p)) (cond c ([] ∷ []) []) ≡ false
-unfolding any isPrefix
+no-key : (c : Bool) (b : Bool) (p : Key) → anyOf (isPrefix (b ∷ p)) (cond c ([] ∷ []) []) ≡ false
+unfolding anyOf isPrefix
 no-key true b p = refl
 no-key false b p = refl
 
 pub found-prefix : (p : Key) (m : ℕ) (s : KeySet) → found m s p ≡ hasPrefix p m s
-unfolding hasPrefix found members filter allKeys
+unfolding hasPrefix found members those allKeys
 found-prefix [] m s = found-nil m s
 found-prefix (b ∷ p) zero s = no-key (s []) b p
 found-prefix (false ∷ p) (suc m) s = found-false m s p ∙ found-prefix p m (half false s)
 found-prefix (true ∷ p) (suc m) s = found-true m s p ∙ found-prefix p m (half true s)
-
--- how many found prefixes of the same length come before p
-unfoldable pub prefixesBefore : Key → ℕ → KeySet → ℕ
-prefixesBefore [] m s = 0
-prefixesBefore (b ∷ p) zero s = 0
-prefixesBefore (false ∷ p) (suc m) s = prefixesBefore p m (half false s)
-prefixesBefore (true ∷ p) (suc m) s = prefixCount (length p) m (half false s) + prefixesBefore p m (half true s)
 
 pub before-lt : (p : Key) (m : ℕ) (s : KeySet) → hasPrefix p m s ≡ true → prefixesBefore p m s < prefixCount (length p) m s
 unfolding hasPrefix prefixesBefore prefixCount
@@ -277,21 +256,21 @@ count-none (suc d) (suc m) s h =
     rw (count-none d m (half false s) (z .0), count-none d m (half true s) (z .1))
 
 -- the smaller members are the whole keys found before it
-pub none-smaller : (b : Bool) → length (filter (λ (j : Key). less j []) (cond b ([] ∷ []) [])) ≡ 0
-unfolding filter less
+pub none-smaller : (b : Bool) → length (those (λ (j : Key). less j []) (cond b ([] ∷ []) [])) ≡ 0
+unfolding those less
 none-smaller true = refl
 none-smaller false = refl
 
 pub before-smaller : (k : Key) (m : ℕ) (s : KeySet) → length k ≡ m → smaller k (members m s) ≡ prefixesBefore k m s
 unfolding prefixesBefore smaller less
-before-smaller [] zero s h = unfold members allKeys filter in none-smaller (s [])
+before-smaller [] zero s h = unfold members allKeys those in none-smaller (s [])
 before-smaller [] (suc m) s h = absurd (omega arith)
 before-smaller (b ∷ k) zero s h = absurd (omega arith)
 before-smaller (false ∷ k) (suc m) s h =
-    rw (members-step, filter-append) (simp (filter-map, filter-none, append-nil, length-map) (before-smaller k m (half false s) (omega arith)))
+    rw (members-step, those-append) (simp (those-map, those-none, append-nil, length-map) (before-smaller k m (half false s) (omega arith)))
 before-smaller (true ∷ k) (suc m) s h =
     let l : length k ≡ m = omega arith in
-    rw (members-step, filter-append) (simp (filter-map, filter-all, length-append, length-map, length-members, l) (ap (λ x. prefixCount m m (half false s) + x) (before-smaller k m (half true s) l)))
+    rw (members-step, those-append) (simp (those-map, those-all, length-append, length-map, length-members, l) (ap (λ x. prefixCount m m (half false s) + x) (before-smaller k m (half true s) l)))
 
 pub index-lt : (k : Key) (m : ℕ) (s : KeySet) → length k ≡ m → s k ≡ true → prefixesBefore k m s < length (members m s)
 index-lt k m s l e =
@@ -301,7 +280,7 @@ index-lt k m s l e =
 -- the member with so many before it
 pub members-at : (k : Key) (m : ℕ) (s : KeySet) → length k ≡ m → s k ≡ true → getD (members m s) (prefixesBefore k m s) [] ≡ k
 unfolding prefixesBefore half
-members-at [] zero s h e = unfold members allKeys filter in rw e
+members-at [] zero s h e = unfold members allKeys those in rw e
 members-at [] (suc m) s h e = absurd (omega arith)
 members-at (b ∷ k) zero s h e = absurd (omega arith)
 members-at (false ∷ k) (suc m) s h e =

@@ -2,14 +2,14 @@
 use mathlib.Core.Path.{_≡_, refl, sym, ap, _∙_}
 use Prim.Native.Nat.{ℕ, zero, suc, _*_, _≤_, _<_}
 use mathlib.Core.Bool.{Bool, true, false}
-use mathlib.Core.List.{List, [], _∷_, _++_, append-assoc, append-nil, map, map-append}
+use mathlib.Core.List.{List, [], _∷_, _++_, append-assoc, append-nil, map, map-append, flatten}
 use native.Mathlib.Omega.{arith}
 use lib.ListN.{length, take, drop, getD, take-append-drop}
 use lib.Seq.{length-take-le, take-suc, take-all}
-use Rattle.loes.specs.Bytes.{join}
 use Rattle.loes.specs.Keys.{KeySet}
 use Rattle.loes.specs.Edges.{Record, recordBits, ones, edges, edgesBefore, level, present}
-use Rattle.loes.proofs.Tree.{half, inhabited, rootRecord, treeLevel}
+use Rattle.loes.specs.Prefixes.{half, inhabited}
+use Rattle.loes.proofs.Tree.{rootRecord, treeLevel}
 use Rattle.loes.proofs.Navigation.{present-is}
 use Rattle.loes.proofs.Extensional.{edges-ext}
 use Rattle.loes.proofs.Forest.{NoEmpty, Levels, SetOf, complete}
@@ -44,10 +44,10 @@ pub record Split (m r : ℕ) (e : List Bool) : Type 0 where
   pub levels : List (List Record)
   pub count : length levels ≡ m
   pub good : Levels r levels
-  pub whole : join (map recordBits levels) ≡ e
+  pub whole : flatten (map recordBits levels) ≡ e
 
 pub split : (m r : ℕ) (e : List Bool) → WellFormed m r e → Split m r e
-unfolding join
+unfolding flatten
 split zero r e w = record { levels = []; count = refl; good = tt; whole = sym w }
 split (suc m) r e w =
     let f : List Bool = take (2 * r) e in
@@ -60,17 +60,17 @@ split (suc m) r e w =
       whole = rw (l .0, t .whole) (take-append-drop (2 * r) e);
     }
 
-pub join-snoc : {A : Type 0} (l : List (List A)) (x : List A) → join (l ++ x ∷ []) ≡ join l ++ x
-unfolding join
-join-snoc [] x = append-nil x
-join-snoc (y ∷ l) x = rw (join-snoc l x) (sym (append-assoc y (join l) x))
+pub flatten-snoc : {A : Type 0} (l : List (List A)) (x : List A) → flatten (l ++ x ∷ []) ≡ flatten l ++ x
+unfolding flatten
+flatten-snoc [] x = append-nil x
+flatten-snoc (y ∷ l) x = rw (flatten-snoc l x) (sym (append-assoc y (flatten l) x))
 
 edgesBefore-levels : (ls : List (List Record)) (s : KeySet) → ((d : ℕ) → d < length ls → level d (length ls) s ≡ getD ls d [])
-    → (d : ℕ) → d ≤ length ls → edgesBefore d (length ls) s ≡ join (map recordBits (take d ls))
-unfolding edgesBefore join
+    → (d : ℕ) → d ≤ length ls → edgesBefore d (length ls) s ≡ flatten (map recordBits (take d ls))
+unfolding edgesBefore flatten
 edgesBefore-levels ls s h zero l = refl
 edgesBefore-levels ls s h (suc d) l =
-    rw (edgesBefore-levels ls s h d (omega arith), h d l, take-suc ls d [], map-append, join-snoc)
+    rw (edgesBefore-levels ls s h d (omega arith), h d l, take-suc ls d [], map-append, flatten-snoc)
 
 -- a well-formed sequence is the edge sequence of a set with a member
 pub well-set : (m : ℕ) (e : List Bool) → WellFormed m 1 e → (s : KeySet) × (inhabited m s ≡ true) × (edges m s ≡ e)

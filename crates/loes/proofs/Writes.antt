@@ -6,7 +6,7 @@ use mathlib.Core.Option.{none, some}
 use lib.ListN.{length}
 use Rattle.loes.specs.Limits.{maxEdges}
 use Rattle.loes.specs.Bytes.{Bytes, front}
-use Rattle.loes.specs.Keys.{any}
+use Rattle.loes.specs.Keys.{anyOf}
 use Rattle.loes.specs.Entry.{Entry, edgeCount, tooManyEdges}
 use Rattle.loes.specs.Encode.{encode}
 use Rattle.loes.specs.Refusals.{tooLarge, shortBuffer, Tests, test, firstOf}
@@ -26,16 +26,16 @@ writes-on ts es bufs h = rw (none-first ts _ h)
 module _ (e : Entry) (out : Bytes) where
   -- 5
   pub writes-large : maxEdges < edgeCount e → writes [] (e ∷ []) (out ∷ []) ≡ refusal tooLarge (out ∷ [])
-  unfolding writes tested refusedOr firstOf test any tooManyEdges
+  unfolding writes tested refusedOr firstOf test anyOf tooManyEdges
   writes-large h = rw (lt-yes maxEdges (edgeCount e) h)
 
   -- 14
   pub writes-short : edgeCount e ≤ maxEdges → length out < length (encode e) → writes [] (e ∷ []) (out ∷ []) ≡ refusal shortBuffer (out ∷ [])
-  unfolding writes tested refusedOr firstOf test any tooManyEdges anyShort
+  unfolding writes tested refusedOr firstOf test anyOf tooManyEdges anyShort
   writes-short h s = rw (lt-no maxEdges (edgeCount e) h, lt-yes (length out) (length (encode e)) s)
 
   -- accepted
   pub writes-fits : edgeCount e ≤ maxEdges → length (encode e) ≤ length out
       → writes [] (e ∷ []) (out ∷ []) .outcome ≡ record { answer = wrote (length (encode e) ∷ []); buffers = front (encode e) out ∷ [] }
-  unfolding writes tested refusedOr firstOf test any tooManyEdges anyShort fronts
+  unfolding writes tested refusedOr firstOf test anyOf tooManyEdges anyShort fronts
   writes-fits h s = rw (lt-no maxEdges (edgeCount e) h, lt-no (length out) (length (encode e)) s)

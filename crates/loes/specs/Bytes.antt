@@ -14,11 +14,6 @@ unfoldable pub tabulate : {A : Type 0} → (ℕ → A) → ℕ → List A
 tabulate f zero = []
 tabulate f (suc n) = tabulate f n ++ f n ∷ []
 
--- the lists of a list, end to end
-unfoldable pub join : {A : Type 0} → List (List A) → List A
-join [] = []
-join (x ∷ xs) = x ++ join xs
-
 -- two lists of numbers are the same
 unfoldable pub sameNumbers : List ℕ → List ℕ → Bool
 sameNumbers [] [] = true

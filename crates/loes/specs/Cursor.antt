@@ -1,13 +1,13 @@
 -- The cursor (document 01: a walk's place), and advance (document 01: the step).
 use Prim.Native.Nat.{ℕ, suc, _-_}
 use mathlib.Core.Bool.{Bool, _&&_, cond, not}
-use mathlib.Core.List.{List, [], _∷_, _++_, map}
+use mathlib.Core.List.{List, [], _∷_, _++_}
 use mathlib.Core.Option.{Option, none, some}
 use lib.ListN.{length, take, drop, getD, replicate}
 use lib.Dec.{eqb, ltb}
 use Rattle.loes.specs.Limits.{maxWidth}
-use Rattle.loes.specs.Bytes.{Bytes, odd, sameNumbers, packBits, front}
-use Rattle.loes.specs.Keys.{Key, any, smaller}
+use Rattle.loes.specs.Bytes.{Bytes, tabulate, odd, sameNumbers, packBits, front}
+use Rattle.loes.specs.Keys.{Key, anyOf, smaller}
 use Rattle.loes.specs.Edges.{edgeOffsets}
 use Rattle.loes.specs.Entry.{Entry, keyBytes, keysOf, count, edgesOf}
 use Rattle.loes.specs.Refusals.{badCursor, shortBuffer, Tests, test, firstOf}
@@ -22,22 +22,27 @@ pub record Cursor : Type 0 where
   pub state : State
   pub offsets : List ℕ
 
+abbrev pub cursorWith : State → List ℕ → Cursor
+cursorWith s os = record { state = s; offsets = os }
+
 -- ---- Which cursors are right for an entry
 unfoldable pub allZero : List ℕ → Bool
-allZero l = not (any (λ (o : ℕ). not (eqb o 0)) l)
+allZero l = not (anyOf (λ (o : ℕ). not (eqb o 0)) l)
 
 -- the edge offsets of a key, one for each level
 unfoldable pub pathOf : Entry → Key → List ℕ
 pathOf e k = edgeOffsets (edgesOf e) 0 k
+
+-- the path of some member is at the front of a list of offsets
+unfoldable pub hasPath : Entry → List ℕ → Bool
+hasPath e os = anyOf (λ (k : Key). sameNumbers (pathOf e k) (take (e .width) os)) (keysOf e)
 
 -- before and after have no offset; at a member stands its path; every other offset is 0
 unfoldable pub offsetsRight : Entry → Cursor → Bool
 offsetsRight e c = elim (c .state) [
   | before ↦ allZero (c .offsets)
   | after ↦ allZero (c .offsets)
-  | at ↦
-      any (λ (k : Key). sameNumbers (pathOf e k) (take (e .width) (c .offsets))) (keysOf e)
-      && allZero (drop (e .width) (c .offsets))
+  | at ↦ hasPath e (c .offsets) && allZero (drop (e .width) (c .offsets))
 ]
 
 -- and there are 256 of them
@@ -48,16 +53,24 @@ isCursorOf e c = eqb (length (c .offsets)) maxWidth && offsetsRight e c
 unfoldable pub padded : List ℕ → List ℕ
 padded os = os ++ replicate (maxWidth - length os) 0
 
+-- before and after
+abbrev pub noOffsets : State → Cursor
+noOffsets s = cursorWith s (padded [])
+
 -- ---- Where it goes
--- the key of a path: level by level, its bit is 1 if the offset is odd
-unfoldable pub keyOfPath : Entry → Cursor → Key
-keyOfPath e c = map odd (take (e .width) (c .offsets))
+-- the key of m levels' offsets: level by level, its bit is 1 if the offset is odd
+unfoldable pub keyOf : (ℕ → ℕ) → ℕ → Key
+keyOf o m = tabulate (λ (d : ℕ). odd (o d)) m
+
+-- the key of the path in a list of offsets
+unfoldable pub keyOfPath : List ℕ → ℕ → Key
+keyOfPath os m = keyOf (λ (d : ℕ). getD os d 0) m
 
 -- the index it goes to; n: it goes to after
 unfoldable pub nextIndex : Entry → Cursor → ℕ
 nextIndex e c = elim (c .state) [
   | before ↦ 0
-  | at ↦ suc (smaller (keyOfPath e c) (keysOf e))
+  | at ↦ suc (smaller (keyOfPath (c .offsets) (e .width)) (keysOf e))
   | after ↦ count e
 ]
 
@@ -84,12 +97,12 @@ goesTo e k out =
     record {
       answer = wroteKey (keyBytes (e .width));
       buffer = front (packBits k) out;
-      cursor = record { state = at; offsets = padded (pathOf e k) };
+      cursor = cursorWith at (padded (pathOf e k));
     }
 
 -- to after: nothing is written, and 0 returned
 unfoldable pub goesToAfter : Bytes → Advanced
-goesToAfter out = record { answer = wroteKey 0; buffer = out; cursor = record { state = after; offsets = padded [] } }
+goesToAfter out = record { answer = wroteKey 0; buffer = out; cursor = noOffsets after }
 
 unfoldable pub staysOr : Option ℕ → Cursor → Bytes → Advanced → Advanced
 staysOr none c out done = done

@@ -4,12 +4,12 @@ use mathlib.Core.Bool.{Bool, true, false, _&&_}
 use mathlib.Core.List.{List, [], _∷_, _++_, map}
 use lib.ListN.{getD, take}
 use Rattle.loes.specs.Bytes.{bit}
-use Rattle.loes.specs.Keys.{Key, KeySet, filter, any, isPrefix, allKeys, members}
+use Rattle.loes.specs.Keys.{Key, KeySet, those, anyOf, isPrefix, allKeys, members}
 
 -- ---- Levels
 -- some member of m bits begins with p
 unfoldable pub found : ℕ → KeySet → Key → Bool
-found m s p = any (isPrefix p) (members m s)
+found m s p = anyOf (isPrefix p) (members m s)
 
 -- whether some member continues a prefix with 0, and with 1
 pub record Record : Type 0 where
@@ -21,7 +21,7 @@ recordOf m s p = record { onZero = found m s (p ++ false ∷ []); onOne = found 
 
 -- level d: one record for each distinct prefix of d bits found, in lexicographic order
 unfoldable pub level : ℕ → ℕ → KeySet → List Record
-level d m s = map (recordOf m s) (filter (found m s) (allKeys d))
+level d m s = map (recordOf m s) (those (found m s) (allKeys d))
 
 unfoldable pub recordBits : List Record → List Bool
 recordBits [] = []

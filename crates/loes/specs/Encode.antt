@@ -1,16 +1,16 @@
 -- The encoding of an entry (document 01: its book): six fields.
 use Prim.Native.Nat.{ℕ, suc, _*_, _/_, _%_}
 use mathlib.Core.Bool.{Bool}
-use mathlib.Core.List.{List, [], _∷_, _++_}
+use mathlib.Core.List.{List, [], _∷_, _++_, flatten}
 use lib.ListN.{length, drop}
-use Rattle.loes.specs.Limits.{blockBits, subBlockBits}
-use Rattle.loes.specs.Bytes.{Bytes, join, started, bigEndian, bigEndians, packBits}
+use Rattle.loes.specs.Limits.{blockBits, subBlockBits, subBlocks, lengthBytes, widthBytes, countBytes, levelEntry, blockEntry, subBlockEntry}
+use Rattle.loes.specs.Bytes.{Bytes, started, bigEndian, bigEndians, packBits}
 use Rattle.loes.specs.Edges.{edgesBefore, onesBefore}
 use Rattle.loes.specs.Entry.{Entry, count, edgesOf, edgeCount}
 
 -- a field: a one-byte tag, a two-byte length and that many bytes
 unfoldable pub field : ℕ → Bytes → Bytes
-field tag body = tag ∷ (bigEndian 2 (length body) ++ body)
+field tag body = tag ∷ (bigEndian lengthBytes (length body) ++ body)
 
 -- set bits from the start of the sequence to the start of block j
 unfoldable pub blockOnes : List Bool → ℕ → ℕ
@@ -18,7 +18,7 @@ blockOnes e j = onesBefore e (blockBits * j)
 
 -- set bits from the start of its block to the start of sub-block j
 unfoldable pub subBlockOnes : List Bool → ℕ → ℕ
-subBlockOnes e j = onesBefore (drop (blockBits * (j / (blockBits / subBlockBits))) e) (subBlockBits * (j % (blockBits / subBlockBits)))
+subBlockOnes e j = onesBefore (drop (blockBits * (j / subBlocks)) e) (subBlockBits * (j % subBlocks))
 
 -- edge bits in level d and all levels before it
 unfoldable pub levelEnd : Entry → ℕ → ℕ
@@ -27,15 +27,15 @@ levelEnd e d = length (edgesBefore (suc d) (e .width) (e .set))
 -- ---- The bodies of the fields, by tag
 -- 1: m
 unfoldable pub widthBody : Entry → Bytes
-widthBody e = bigEndian 2 (e .width)
+widthBody e = bigEndian widthBytes (e .width)
 
 -- 2: n
 unfoldable pub countBody : Entry → Bytes
-countBody e = bigEndian 4 (count e)
+countBody e = bigEndian countBytes (count e)
 
 -- 3: for each level, the edge bits in it and all levels before it
 unfoldable pub levelBody : Entry → Bytes
-levelBody e = bigEndians 4 (levelEnd e) (e .width)
+levelBody e = bigEndians levelEntry (levelEnd e) (e .width)
 
 -- 4: the edges
 unfoldable pub edgeBody : Entry → Bytes
@@ -43,15 +43,15 @@ edgeBody e = packBits (edgesOf e)
 
 -- 5: for each started block, the set bits before it
 unfoldable pub blockBody : Entry → Bytes
-blockBody e = bigEndians 8 (blockOnes (edgesOf e)) (started blockBits (edgeCount e))
+blockBody e = bigEndians blockEntry (blockOnes (edgesOf e)) (started blockBits (edgeCount e))
 
 -- 6: for each started sub-block, the set bits of its block before it
 unfoldable pub subBlockBody : Entry → Bytes
-subBlockBody e = bigEndians 2 (subBlockOnes (edgesOf e)) (started subBlockBits (edgeCount e))
+subBlockBody e = bigEndians subBlockEntry (subBlockOnes (edgesOf e)) (started subBlockBits (edgeCount e))
 
 unfoldable pub encode : Entry → Bytes
 encode e =
-    join
+    flatten
     (field 1 (widthBody e)
     ∷ field 2 (countBody e)
     ∷ field 3 (levelBody e)

@@ -1,24 +1,24 @@
--- Document 01's worked examples, and further ones. The proof of each is computation.
+-- Document 01's worked examples, and further ones, whose proof is computation; and laws of order (`Orders`).
 use mathlib.Core.Path.{_≡_}
 use Prim.Native.Nat.{ℕ}
 use mathlib.Core.Bool.{true, false}
 use mathlib.Core.List.{List, [], _∷_, _++_}
+use mathlib.Core.Option.{none}
 use lib.ListN.{take, drop, getD, replicate}
-use Rattle.loes.specs.Limits.{subBlockBits}
+use lib.Dec.{eqb}
+use Rattle.loes.specs.Limits.{maxWidth, maxEdges, maxBytes, subBlockBits}
 use Rattle.loes.specs.Bytes.{Bytes, started, packBits}
 use Rattle.loes.specs.Keys.{Key, setOf}
 use Rattle.loes.specs.Edges.{lastOf, edgeOffsets, edgesBefore, ones, edgeIndex}
-use Rattle.loes.specs.Entry.{Entry, edgesOf, edgeCount}
+use Rattle.loes.specs.Entry.{Entry, edgesOf, edgeCount, tooManyEdges, Valid}
 use Rattle.loes.specs.Encode.{blockOnes, subBlockOnes, encode}
-use Rattle.loes.specs.Model.{Answer, refused, wrote, wroteKey, tells, isAbsent, isNone, indexIs, rankIs, Outcome, saying}
+use Rattle.loes.specs.Refusals.{firstOf}
+use Rattle.loes.specs.Read.{endOf}
+use Rattle.loes.specs.Model.{Answer, refused, wrote, wroteKey, tells, isAbsent, isNone, indexIs, rankIs, saying, writing, packTests, batchEntry, unionEntry}
 use Rattle.loes.specs.Calls.{packCall, unionCall, differenceCall, openCall, containsCall, indexOfCall, keyAtCall, rankCall, lowerBoundCall}
-use Rattle.loes.specs.Cursor.{State, before, at, after, Cursor, Advanced, advanceCall}
+use Rattle.loes.specs.Cursor.{State, before, at, after, Cursor, cursorWith, padded, Advanced, advanceCall}
 
 -- ---- Words of the statements
--- an outcome with one buffer
-abbrev pub writing : Answer → Bytes → Outcome
-writing a buf = record { answer = a; buffers = buf ∷ [] }
-
 -- a buffer of n bytes before a call
 abbrev pub room : ℕ → Bytes
 room n = replicate n 0xEE
@@ -83,7 +83,7 @@ pub record Examples : Type 0 where
 
 -- ---- Further: document 01's other examples, the other refusals, and a whole walk
 abbrev pub cursor : State → List ℕ → Cursor
-cursor s os = record { state = s; offsets = os ++ replicate 253 0 }
+cursor s os = cursorWith s (padded os)
 
 abbrev pub advanced : Answer → Bytes → State → List ℕ → Advanced
 advanced a out s os = record { answer = a; buffer = out; cursor = cursor s os }
@@ -107,6 +107,7 @@ pub record FurtherExamples : Type 0 where
   pub second-sub-block : subBlockOnes (replicate 513 true) 1 ≡ 512
   pub one-sub-block : started subBlockBits 512 ≡ 1
   pub two-sub-blocks : started subBlockBits 513 ≡ 2
+  pub longest : endOf maxWidth maxEdges ≡ maxBytes
   pub no-head : openCall [] ≡ saying (refused 1)
   pub short-body : openCall (0x01 ∷ 0x00 ∷ 0x02 ∷ 0x00 ∷ []) ≡ saying (refused 1)
   pub short-last : openCall (take 47 P2) ≡ saying (refused 1)
@@ -135,3 +136,16 @@ pub record FurtherExamples : Type 0 where
   pub step-short : advanceCall P2 (cursor before (0 ∷ 0 ∷ 0 ∷ [])) [] ≡ advanced (refused 14) [] before (0 ∷ 0 ∷ 0 ∷ [])
   pub no-path : advanceCall P2 (cursor at (0 ∷ 2 ∷ 7 ∷ [])) (room 2) ≡ advanced (refused 15) (room 2) at (0 ∷ 2 ∷ 7 ∷ [])
   pub unused-offset : advanceCall P2 (cursor before (0 ∷ 0 ∷ 1 ∷ [])) (room 2) ≡ advanced (refused 15) (room 2) before (0 ∷ 0 ∷ 1 ∷ [])
+  -- where two tests hold, the first gives its number
+  pub nine-before-14 : keyAtCall P2 3 [] ≡ writing (refused 9) []
+  pub eleven-before-12 : packCall 3 (0x60 ∷ 0x01 ∷ []) (room 48) ≡ writing (refused 11) (room 48)
+  pub fifteen-before-14 : advanceCall P2 (cursor at (0 ∷ 2 ∷ 7 ∷ [])) [] ≡ advanced (refused 15) [] at (0 ∷ 2 ∷ 7 ∷ [])
+
+-- ---- The same of 5 and of 13, for all of which they hold, since no set with so many edges is small enough to compute
+pub record Orders : Type 0 where
+  pub five-before-14 : (m : ℕ) (batch out : Bytes) → firstOf (packTests m batch) ≡ none → tooManyEdges (edgeCount (batchEntry m batch)) ≡ true
+      → packCall m batch out ≡ writing (refused 5) out
+  pub five-before-14-joined : (e f : Entry) (out : Bytes) → Valid e → Valid f → eqb (e .width) (f .width) ≡ true → tooManyEdges (edgeCount (unionEntry e f)) ≡ true
+      → unionCall (encode e) (encode f) out ≡ writing (refused 5) out
+  pub thirteen-before-5-and-14 : (e f : Entry) (out : Bytes) → Valid e → Valid f → eqb (e .width) (f .width) ≡ false
+      → (unionCall (encode e) (encode f) out ≡ writing (refused 13) out) × (differenceCall (encode e) (encode f) out ≡ writing (refused 13) out)

@@ -1,14 +1,10 @@
 -- Histories: one list of calls, run by a store of encodings (document 01: the shelf) and by the model of plain sets (document 01: the table).
-use mathlib.Core.Path.{_≡_}
-use mathlib.Core.Logic.{_↔_}
-use Prim.Native.Nat.{ℕ, zero, suc, _<_}
-use mathlib.Core.Bool.{false}
+use Prim.Native.Nat.{ℕ, zero, suc}
 use mathlib.Core.List.{List, [], _∷_, _++_}
 use mathlib.Core.Option.{Option, none, some}
-use lib.ListN.{length, take, getD}
+use lib.ListN.{take}
 use Rattle.loes.specs.Bytes.{Bytes}
-use Rattle.loes.specs.Entry.{Entry, SameEntry}
-use Rattle.loes.specs.Encode.{encode}
+use Rattle.loes.specs.Entry.{Entry}
 use Rattle.loes.specs.Model.{Answer, refused, wrote, wroteKey, tells, isPresent, isAbsent, isNone, indexIs, rankIs, Outcome, Step, pack, union, difference, contains, indexOf, keyAt, rankAt, lowerBound}
 use Rattle.loes.specs.Calls.{packCall, unionCall, differenceCall, containsCall, indexOfCall, keyAtCall, rankCall, lowerBoundCall}
 
@@ -103,33 +99,9 @@ unfoldable pub storeSays : List Bytes → List Call → List (Option Outcome)
 storeSays s [] = []
 storeSays s (c ∷ h) = storeCall s c ∷ storeSays (s ++ writtenBy (storeCall s c)) h
 
--- ---- Demand 3
--- at first there are none
+-- ---- After a history; at first there are none
 unfoldable pub modelAfter : List Call → List Entry
 modelAfter h = modelFrom [] h
 
 unfoldable pub storeAfter : List Call → List Bytes
 storeAfter h = storeFrom [] h
-
--- what stands for an entry outside the list
-unfoldable pub noEntry : Entry
-noEntry = record { width = 0; set = λ k. false }
-
--- after a history
-pub record After (h : List Call) : Type 0 where
-  -- every call was accepted or refused, and answered, as the model says, and every byte of its output buffers is the same
-  pub outcomes : storeSays [] h ≡ modelSays [] h
-  -- the store has as many encodings as the model has entries
-  pub counts : length (storeAfter h) ≡ length (modelAfter h)
-  -- and each is byte for byte the encoding of its entry
-  pub encodings : (i : ℕ) → i < length (storeAfter h) → getD (storeAfter h) i [] ≡ encode (getD (modelAfter h) i noEntry)
-
--- an encoding made by one history and one made by another are equal byte for byte exactly when their entries have the same width and the same keys
-pub record Between (g h : List Call) : Type 0 where
-  pub equal : (i j : ℕ) → i < length (storeAfter g) → j < length (storeAfter h)
-      → (getD (storeAfter g) i [] ≡ getD (storeAfter h) j []) ↔ SameEntry (getD (modelAfter g) i noEntry) (getD (modelAfter h) j noEntry)
-
--- for every history, and for every two, which may be the same one
-pub record HistoriesAgree : Type 0 where
-  pub one : (h : List Call) → After h
-  pub two : (g h : List Call) → Between g h

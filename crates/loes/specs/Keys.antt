@@ -14,14 +14,14 @@ KeySet = Key → Bool
 
 -- ---- Lists
 -- those that a test takes, in the same order
-unfoldable pub filter : {A : Type 0} → (A → Bool) → List A → List A
-filter f [] = []
-filter f (x ∷ xs) = cond (f x) (x ∷ filter f xs) (filter f xs)
+unfoldable pub those : {A : Type 0} → (A → Bool) → List A → List A
+those f [] = []
+those f (x ∷ xs) = cond (f x) (x ∷ those f xs) (those f xs)
 
 -- whether the test takes one at all
-unfoldable pub any : {A : Type 0} → (A → Bool) → List A → Bool
-any f [] = false
-any f (x ∷ xs) = f x || any f xs
+unfoldable pub anyOf : {A : Type 0} → (A → Bool) → List A → Bool
+anyOf f [] = false
+anyOf f (x ∷ xs) = f x || anyOf f xs
 
 -- ---- Keys
 abbrev pub sameBit : Bool → Bool → Bool
@@ -57,15 +57,15 @@ allKeys (suc m) = map (λ (k : Key). false ∷ k) (allKeys m) ++ map (λ (k : Ke
 -- ---- Sets
 -- the set's keys of m bits, in order
 unfoldable pub members : ℕ → KeySet → List Key
-members m s = filter s (allKeys m)
+members m s = those s (allKeys m)
 
 -- how many keys of a list are smaller than k
 unfoldable pub smaller : Key → List Key → ℕ
-smaller k l = length (filter (λ (j : Key). less j k) l)
+smaller k l = length (those (λ (j : Key). less j k) l)
 
 -- the set of the keys of a list
 unfoldable pub setOf : List Key → KeySet
-setOf l k = any (sameKey k) l
+setOf l k = anyOf (sameKey k) l
 
 -- the keys in either set
 unfoldable pub either : KeySet → KeySet → KeySet

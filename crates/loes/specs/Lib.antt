@@ -7,10 +7,13 @@ pub mod Entry
 pub mod Encode
 pub mod Refusals
 pub mod Read
--- (edges in a buffer: for the contracts of inner functions)
+-- (for the contracts of inner functions: edges in a buffer, and records counted)
 pub mod Held
+pub mod Prefixes
 pub mod Model
 pub mod Calls
 pub mod Cursor
+pub mod Walk
 pub mod History
+pub mod Demands
 pub mod Examples

@@ -1,5 +1,5 @@
 -- The numbers that belong to the format.
-use Prim.Native.Nat.{ℕ, _/_}
+use Prim.Native.Nat.{ℕ, _+_, _/_}
 
 -- the greatest width of a key, in bits
 abbrev pub maxWidth : ℕ
@@ -15,6 +15,33 @@ blockBits = 65536
 
 abbrev pub subBlockBits : ℕ
 subBlockBits = 512
+
+-- the bytes of a field's tag, of its length, and of both: its head
+abbrev pub tagBytes : ℕ
+tagBytes = 1
+
+abbrev pub lengthBytes : ℕ
+lengthBytes = 2
+
+abbrev pub headBytes : ℕ
+headBytes = tagBytes + lengthBytes
+
+-- the bytes of the number in the body of field 1 and of field 2
+abbrev pub widthBytes : ℕ
+widthBytes = 2
+
+abbrev pub countBytes : ℕ
+countBytes = 4
+
+-- the bytes of an entry of field 3, of field 5 and of field 6
+abbrev pub levelEntry : ℕ
+levelEntry = 4
+
+abbrev pub blockEntry : ℕ
+blockEntry = 8
+
+abbrev pub subBlockEntry : ℕ
+subBlockEntry = 2
 
 -- the sub-blocks of a block
 abbrev pub subBlocks : ℕ

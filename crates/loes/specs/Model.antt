@@ -6,7 +6,7 @@ use mathlib.Core.Option.{Option, none, some}
 use lib.ListN.{length, take, drop, getD}
 use lib.Dec.{eqb, ltb}
 use Rattle.loes.specs.Bytes.{Bytes, tabulate, packBits, bitsIn, front}
-use Rattle.loes.specs.Keys.{Key, any, less, smaller, setOf, either, without}
+use Rattle.loes.specs.Keys.{Key, anyOf, less, smaller, setOf, either, without}
 use Rattle.loes.specs.Edges.{rank}
 use Rattle.loes.specs.Entry.{Entry, keyBytes, keysOf, count, edgesOf, edgeCount, withSet, wrongWidth, tooManyEdges}
 use Rattle.loes.specs.Encode.{encode}
@@ -31,9 +31,12 @@ pub record Outcome : Type 0 where
   pub answer : Answer
   pub buffers : List Bytes
 
--- an answer, with no buffer lent
+-- an answer, with no buffer lent, and with one
 abbrev pub saying : Answer → Outcome
 saying a = record { answer = a; buffers = [] }
+
+abbrev pub writing : Answer → Bytes → Outcome
+writing a out = record { answer = a; buffers = out ∷ [] }
 
 -- a step of the model: its outcome, and the entries it adds
 pub record Step : Type 0 where
@@ -55,7 +58,7 @@ tested ts bufs done = refusedOr (firstOf ts) bufs done
 
 -- nothing is written
 unfoldable pub answers : Tests → Answer → Step
-answers ts a = tested ts [] (record { outcome = record { answer = a; buffers = [] }; added = [] })
+answers ts a = tested ts [] (record { outcome = saying a; added = [] })
 
 -- ---- Encodings that are written, each to the front of its own buffer
 unfoldable pub fronts : List Bytes → List Bytes → List Bytes
@@ -73,7 +76,7 @@ anyShort (x ∷ xs) (buf ∷ bufs) = ltb (length buf) (length x) || anyShort xs 
 unfoldable pub writes : Tests → List Entry → List Bytes → Step
 writes ts es bufs =
     tested
-    (ts ++ test (any (λ (e : Entry). tooManyEdges (edgeCount e)) es) tooLarge ∷ test (anyShort (map encode es) bufs) shortBuffer ∷ [])
+    (ts ++ test (anyOf (λ (e : Entry). tooManyEdges (edgeCount e)) es) tooLarge ∷ test (anyShort (map encode es) bufs) shortBuffer ∷ [])
     bufs
     (record {
       outcome = record { answer = wrote (map (λ (e : Entry). length (encode e)) es); buffers = fronts (map encode es) bufs };
@@ -84,7 +87,7 @@ writes ts es bufs =
 unfoldable pub writesKey : Tests → ℕ → Key → Bytes → Step
 writesKey ts m k out =
     tested (ts ++ test (ltb (length out) (keyBytes m)) shortBuffer ∷ []) (out ∷ [])
-    (record { outcome = record { answer = wroteKey (keyBytes m); buffers = front (packBits k) out ∷ [] }; added = [] })
+    (record { outcome = writing (wroteKey (keyBytes m)) (front (packBits k) out); added = [] })
 
 -- ---- Keys as they are given
 -- the key of m bits in bytes
@@ -93,7 +96,7 @@ keyIn m x = bitsIn x m
 
 -- one of the bits behind the m bits is set
 unfoldable pub unusedSet : ℕ → Bytes → Bool
-unusedSet m x = any (λ (b : Bool). b) (drop m (bitsIn x (8 * keyBytes m)))
+unusedSet m x = anyOf (λ (b : Bool). b) (drop m (bitsIn x (8 * keyBytes m)))
 
 -- 8: not t bytes, or an unused bit set
 unfoldable pub keyTest : Entry → Bytes → Option ℕ
@@ -108,11 +111,14 @@ belowTest i n = test (not (ltb i n)) outOfRange
 unfoldable pub batchKeys : ℕ → Bytes → List Bytes
 batchKeys m batch = tabulate (λ (i : ℕ). take (keyBytes m) (drop (keyBytes m * i) batch)) (length batch / keyBytes m)
 
--- key by key: 11, and 12 against the one before it (in front of the first stands [], and nothing is smaller than that)
+-- of a key: 11, and 12 against the one before it
+abbrev pub pairTests : ℕ → Key → Bytes → Tests
+pairTests m before x = test (unusedSet m x) unusedBitSet ∷ test (less (keyIn m x) before) descending ∷ []
+
+-- key by key (in front of the first stands [], and nothing is smaller than that)
 unfoldable pub risingTests : ℕ → Key → List Bytes → Tests
 risingTests m before [] = []
-risingTests m before (x ∷ l) =
-    test (unusedSet m x) unusedBitSet ∷ test (less (keyIn m x) before) descending ∷ risingTests m (keyIn m x) l
+risingTests m before (x ∷ l) = pairTests m before x ++ risingTests m (keyIn m x) l
 
 -- 4, 10, then key by key
 unfoldable pub packTests : ℕ → Bytes → Tests
@@ -129,15 +135,22 @@ unfoldable pub pack : ℕ → Bytes → Bytes → Step
 pack m batch out = writes (packTests m batch) (batchEntry m batch ∷ []) (out ∷ [])
 
 -- ---- Union and difference (document 01: fold and strike)
+-- the keys in either set, and those in the first but not in the second
+abbrev pub unionEntry : Entry → Entry → Entry
+unionEntry e f = withSet e (either (e .set) (f .set))
+
+abbrev pub differenceEntry : Entry → Entry → Entry
+differenceEntry e f = withSet e (without (e .set) (f .set))
+
 -- 13
 unfoldable pub joinTests : Entry → Entry → Tests
 joinTests e f = test (not (eqb (e .width) (f .width))) twoWidths ∷ []
 
 unfoldable pub union : Entry → Entry → Bytes → Step
-union e f out = writes (joinTests e f) (withSet e (either (e .set) (f .set)) ∷ []) (out ∷ [])
+union e f out = writes (joinTests e f) (unionEntry e f ∷ []) (out ∷ [])
 
 unfoldable pub difference : Entry → Entry → Bytes → Step
-difference e f out = writes (joinTests e f) (withSet e (without (e .set) (f .set)) ∷ []) (out ∷ [])
+difference e f out = writes (joinTests e f) (differenceEntry e f ∷ []) (out ∷ [])
 
 -- ---- Open, and the five questions
 unfoldable pub opens : Entry → Step

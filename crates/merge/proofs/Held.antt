@@ -10,12 +10,13 @@ use lib.Dec.{ltb}
 use Rattle.loes.specs.Bytes.{Bytes, bit, bitsIn, tabulate}
 use Rattle.loes.specs.Keys.{KeySet}
 use Rattle.loes.specs.Edges.{Record, recordBits, edges}
+use Rattle.loes.specs.Prefixes.{half, inhabited}
 use Rattle.loes.specs.Entry.{edgesOf}
-use Rattle.loes.specs.Read.{followed}
-use Rattle.loes.specs.Held.{held, Holds}
+use Rattle.loes.specs.Read.{entryAlong}
+use Rattle.loes.specs.Held.{entryHeld, Holds}
 use Rattle.loes.proofs.Tests.{lt-yes}
 use Rattle.loes.proofs.Lists.{length-bits}
-use Rattle.loes.proofs.Tree.{half, inhabited, treeLevel, tree-empty, length-root}
+use Rattle.loes.proofs.Tree.{treeLevel, tree-empty, length-root}
 use Rattle.loes.proofs.Bytes.{length-tabulate}
 use Rattle.loes.proofs.WellFormed.{recordsIn, records-bits}
 use Rattle.loes.proofs.Bits.{tabulate-add}
@@ -26,7 +27,7 @@ use Rattle.merge.proofs.Merging.{treeLevels, levels-split, levels-more,
 
 -- the set of the entry that edge bytes hold
 abbrev pub setIn : ℕ → ℕ → Bytes → KeySet
-setIn m b l = held m b l .set
+setIn m b l = entryHeld m b l .set
 
 pub record RecordsHeld (m : ℕ) (s : KeySet) (l : Bytes) (r : ℕ) : Type 0 where
   pub records : recordsTo l r ≡ treeLevels m 0 m s
@@ -38,18 +39,18 @@ edges-records m s l r e =
     sym (records-bits (recordsTo l r)) ∙ ap recordsIn g ∙ records-bits (treeLevels m 0 m s)
 
 -- an edge sequence has an even number of bits
-pub even : (m b : ℕ) (l : Bytes) → edgesOf (held m b l) ≡ bitsIn l b → 2 * (b / 2) ≡ b
-unfolding edgesOf held followed bitsIn
+pub even : (m b : ℕ) (l : Bytes) → edgesOf (entryHeld m b l) ≡ bitsIn l b → 2 * (b / 2) ≡ b
+unfolding edgesOf entryHeld entryAlong bitsIn
 even m b l e =
     let f : b ≡ 2 * length (treeLevels m 0 m (setIn m b l)) =
     sym (ap length (sym (edges-levels m (setIn m b l)) ∙ e) ∙ length-tabulate _ b) ∙ length-bits (treeLevels m 0 m (setIn m b l)) in
     omega arith
 
-pub held-records : (m b : ℕ) (l : Bytes) → b ≤ 8 * length l → edgesOf (held m b l) ≡ bitsIn l b → RecordsHeld m (setIn m b l) l (b / 2)
+pub held-records : (m b : ℕ) (l : Bytes) → b ≤ 8 * length l → edgesOf (entryHeld m b l) ≡ bitsIn l b → RecordsHeld m (setIn m b l) l (b / 2)
 unfolding edgesOf
 held-records m b l h e =
     let z : 2 * (b / 2) ≡ b = even m b l (unfold edgesOf in e) in
-    record { records = edges-records m (setIn m b l) l (b / 2) (rw z (unfold held followed in sym e)); fits = omega arith }
+    record { records = edges-records m (setIn m b l) l (b / 2) (rw z (unfold entryHeld entryAlong in sym e)); fits = omega arith }
 
 pub held-of : {m b : ℕ} {l : Bytes} → Holds m b l → RecordsHeld m (setIn m b l) l (b / 2)
 held-of {m} {b} {l} h = held-records m b l (h .room) (h .same)

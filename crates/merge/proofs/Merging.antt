@@ -5,10 +5,11 @@ use mathlib.Core.Bool.{Bool, true, false, _||_, cond}
 use mathlib.Core.List.{List, [], _∷_, _++_, map, map-append, map-map, append-assoc, append-nil}
 use native.Mathlib.Omega.{arith}
 use lib.ListN.{length, length-append}
-use Rattle.loes.specs.Keys.{Key, KeySet, allKeys, filter, members, either}
+use Rattle.loes.specs.Keys.{Key, KeySet, allKeys, those, members, either}
 use Rattle.loes.specs.Edges.{Record, recordBits, edges, edgesBefore}
+use Rattle.loes.specs.Prefixes.{half, inhabited}
 use Rattle.loes.proofs.Lists.{bits-append}
-use Rattle.loes.proofs.Tree.{half, inhabited, rootRecord, treeLevel, level-tree, members-step}
+use Rattle.loes.proofs.Tree.{rootRecord, treeLevel, level-tree, members-step}
 use Rattle.records.specs.Records.{Flag, emptyRecord, flagIf, nextOf, restOf, firstCount, secondCount}
 use Rattle.merge.specs.Union.{eitherRecord, merged, childFlags, pushed, flagOf}
 
@@ -159,7 +160,7 @@ one-member false false f e = refl
 
 pub flags-members : (m : ℕ) (s t : KeySet) → levelFlags m m s t ≡ map (flagOf s t) (members m (either s t))
 unfolding levelFlags flagOf half either
-flags-members zero s t = unfold inhabited members allKeys filter in one-member (s []) (t []) (flagOf s t) refl
+flags-members zero s t = unfold inhabited members allKeys those in one-member (s []) (t []) (flagOf s t) refl
 flags-members (suc m) s t =
     rw (members-step m (either s t), map-append, map-map, map-map)
     (ap₂ _++_ (flags-members m (half false s) (half false t)) (flags-members m (half true s) (half true t)))

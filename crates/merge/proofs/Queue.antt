@@ -9,15 +9,17 @@ use Rattle.loes.specs.Limits.{maxEdges}
 use Rattle.loes.specs.Bytes.{Bytes, bit, odd, tabulate}
 use Rattle.loes.specs.Keys.{KeySet, either}
 use Rattle.loes.specs.Edges.{recordBits, edges}
+use Rattle.loes.specs.Prefixes.{inhabited}
 use Rattle.loes.specs.Entry.{Entry, edgesOf, keysOf, withSet}
-use Rattle.loes.specs.Read.{followed}
-use Rattle.loes.specs.Held.{held, Holds}
+use Rattle.loes.specs.Read.{entryAlong}
+use Rattle.loes.specs.Held.{entryHeld, Holds}
+use Rattle.loes.specs.Model.{unionEntry}
 use Rattle.loes.proofs.Lists.{length-bits}
 use Rattle.loes.proofs.Bits.{length-bitsIn}
-use Rattle.loes.proofs.Tree.{inhabited, treeLevel}
-use Rattle.records.specs.Records.{Flag, recordsTo, flagsFrom, Pushed, Sealed, Written, flagIf, firstCount, secondCount}
+use Rattle.loes.proofs.Tree.{treeLevel}
+use Rattle.records.specs.Records.{Flag, recordsTo, flagsFrom, Pushed, Sealed, Packed, flagIf, firstCount, secondCount}
 use Rattle.records.specs.Numbers.{overread}
-use Rattle.merge.specs.Union.{merged, pushed, recordsFrom, LevelMerged, LevelRoom, QueueRoom, unionOf, Merged}
+use Rattle.merge.specs.Union.{merged, pushed, recordsFrom, LevelMerged, LevelRoom, QueueRoom, Merged}
 use Rattle.records.proofs.Codes.{bits-recordsTo}
 use Rattle.records.proofs.Sealing.{written}
 use Rattle.merge.proofs.Single.{push-flag, length-flags, queued-behind}
@@ -144,8 +146,8 @@ module _ {m : ℕ} {s t : KeySet} {a b q₀ : Bytes} {ra rb d from ka kb end : �
 -- all levels done
 pub merged-done : {m x y : ℕ} {a b q q₀ p : Bytes} {from ka kb end : ℕ} → Holds m x a → Holds m y b → QueueRoom x y q
     → Done m (setIn m x a) (setIn m y b) q₀ m from ka kb end p → length q₀ ≡ length q
-    → Merged (held m x a) (held m y b) q p (2 * from) (end - from)
-unfolding edgesOf keysOf withSet held followed
+    → Merged (entryHeld m x a) (entryHeld m y b) q p (2 * from) (end - from)
+unfolding edgesOf keysOf withSet entryHeld entryAlong
 merged-done {m} {x} {y} {a} {b} {p} {from} ha hb w v e =
     let s : KeySet = setIn m x a in
     let t : KeySet = setIn m y b in
@@ -166,9 +168,9 @@ even-edges e =
     omega arith
 
 -- the union's edges alone, sealed
-pub united : {e f : Entry} {q p u : Bytes} {b n : ℕ} → Merged e f q p b n → Sealed (b / 2) p u → Written (edgesOf (unionOf e f)) q u b
+pub united : {e f : Entry} {q p u : Bytes} {b n : ℕ} → Merged e f q p b n → Sealed (b / 2) p u → Packed (edgesOf (unionEntry e f)) q u b
 united {e} {f} {q} {p} {u} {b} v s =
-    let l : length (edgesOf (unionOf e f)) ≡ b = ap length (sym (v .edges)) ∙ length-bitsIn p b in
-    let z : 2 * (b / 2) ≡ b = rw l at (even-edges (unionOf e f)) in
-    let w : Written (edgesOf (unionOf e f)) q u (2 * (b / 2)) = written (rw z (v .edges)) (v .size) s in
+    let l : length (edgesOf (unionEntry e f)) ≡ b = ap length (sym (v .edges)) ∙ length-bitsIn p b in
+    let z : 2 * (b / 2) ≡ b = rw l at (even-edges (unionEntry e f)) in
+    let w : Packed (edgesOf (unionEntry e f)) q u (2 * (b / 2)) = written (rw z (v .edges)) (v .size) s in
     rw z at w

@@ -7,7 +7,7 @@ use native.Mathlib.Omega.{arith}
 use lib.ListN.{length, length-append}
 use lib.Bits.{bitOr}
 use Rattle.loes.specs.Bytes.{Bytes, odd, tabulate}
-use Rattle.loes.specs.Keys.{filter}
+use Rattle.loes.specs.Keys.{those}
 use Rattle.loes.specs.Edges.{Record}
 use Rattle.loes.proofs.Bytes.{length-tabulate, append-inj}
 use Rattle.loes.proofs.Bits.{bit-odd, tabulate-add, tabulate-ext}
@@ -42,7 +42,7 @@ push-flag q p n z end w =
     record {
       flags =
           flags-records p end
-          ∙ rw (w .records, map-append, ← flags-records q n) (ap (λ l. flagsTo q n ++ l) (unfold filter hasEdge recordOfCode in one-flag (odd (z / 2)) (odd z)));
+          ∙ rw (w .records, map-append, ← flags-records q n) (ap (λ l. flagsTo q n ++ l) (unfold those hasEdge recordOfCode in one-flag (odd (z / 2)) (odd z)));
       size = w .size;
     }
 

@@ -6,24 +6,22 @@ use mathlib.Core.List.{List, [], _∷_, _++_, map}
 use lib.ListN.{length, drop}
 use Rattle.loes.specs.Limits.{maxEdges}
 use Rattle.loes.specs.Bytes.{Bytes, bit, bitsIn}
-use Rattle.loes.specs.Keys.{Key, KeySet, either}
+use Rattle.loes.specs.Keys.{Key, KeySet}
 use Rattle.loes.specs.Edges.{Record}
-use Rattle.loes.specs.Entry.{Entry, keysOf, edgesOf, withSet}
+use Rattle.loes.specs.Entry.{Entry, keysOf, edgesOf}
+use Rattle.loes.specs.Model.{unionEntry}
 use Rattle.records.specs.Records.{Flag, emptyRecord, recordAt, recordsTo, recordsAt, nextOf, restOf, flagAt, flagsTo, flagsFrom, flagOfRecord, recordOfFlag, flagIf, firstCount, secondCount}
 use Rattle.records.specs.Numbers.{recordsOf, Short, overread, overwrite}
 
 -- ---- On entries
-abbrev pub unionOf : Entry → Entry → Entry
-unionOf e f = withSet e (either (e .set) (f .set))
-
 -- which of two sets has a key
 unfoldable pub flagOf : KeySet → KeySet → Key → Flag
 flagOf s t k = record { inFirst = s k; inSecond = t k }
 
 -- what merging two entries leaves: the union's edges in the first b bits, and behind them the flags of its n members in order
 pub record Merged (e f : Entry) (q p : Bytes) (b n : ℕ) : Type 0 where
-  pub edges : bitsIn p b ≡ edgesOf (unionOf e f)
-  pub flags : flagsFrom p (b / 2) n ≡ map (flagOf (e .set) (f .set)) (keysOf (unionOf e f))
+  pub edges : bitsIn p b ≡ edgesOf (unionEntry e f)
+  pub flags : flagsFrom p (b / 2) n ≡ map (flagOf (e .set) (f .set)) (keysOf (unionEntry e f))
   pub fits : b / 2 + n ≤ 4 * length p
   pub size : length p ≡ length q
 

@@ -8,11 +8,12 @@ ghost use lib.Dec.{ltb};
 ghost use Rattle.loes.specs.Limits.{maxEdges};
 ghost use Rattle.loes.specs.Bytes.{odd, bit};
 ghost use Rattle.loes.specs.Entry.{edgesOf};
-ghost use Rattle.loes.specs.Held.{held, Holds};
-ghost use Rattle.records.specs.Records.{recordOfCode, flagAt, flagsFrom, recordOfFlag, Written};
+ghost use Rattle.loes.specs.Held.{entryHeld, Holds};
+ghost use Rattle.loes.specs.Model.{unionEntry};
+ghost use Rattle.records.specs.Records.{recordOfCode, flagAt, flagsFrom, recordOfFlag, Packed};
 ghost use Rattle.records.specs.Numbers.{recordsOf, eightOf, Short, overread, overwrite};
 ghost use Rattle.records.specs.Tables.{Spreads, Parted, Runs, TablesLent};
-ghost use Rattle.merge.specs.Union.{unionOf, Merged, QueueRoom, eitherRecord, childFlags, childrenOf, flagsIn, EightMerged, takenRecord, Queued, RecordMerged, BlockMerged, LevelMerged, LevelRoom};
+ghost use Rattle.merge.specs.Union.{Merged, QueueRoom, eitherRecord, childFlags, childrenOf, flagsIn, EightMerged, takenRecord, Queued, RecordMerged, BlockMerged, LevelMerged, LevelRoom};
 use bits::RecordIndex;
 use records::Run;
 
@@ -221,7 +222,7 @@ fn root_flag(n: usize) -> u8
 }
 
 // The edge bits of a union, and its members, whose flags stand behind its records.
-pub struct Joined {
+pub struct Sizes {
     pub edges: usize,
     pub members: usize,
 }
@@ -237,12 +238,12 @@ pub fn merge(
     parts: &[u32],
     runs: &[u16],
     q: &mut [u8],
-) -> Joined
+) -> Sizes
     requires { ⌜ Holds m ba (now a) × (ba / 2 + overread ≤ 4 * length (now a)) ⌝ }
     requires { ⌜ Holds m bb (now b) × (bb / 2 + overread ≤ 4 * length (now b)) ⌝ }
     requires { ⌜ TablesLent (now spreads) (now parts) (now runs) ⌝ }
     requires { ⌜ QueueRoom ba bb (now q) ⌝ }
-    ensures { λ r. ⌜ Merged (held m ba (now (a .entry))) (held m bb (now (b .entry))) (now (q .entry)) (now (q .exit)) (r .edges) (r .members) ⌝ }
+    ensures { λ r. ⌜ Merged (entryHeld m ba (now (a .entry))) (entryHeld m bb (now (b .entry))) (now (q .entry)) (now (q .exit)) (r .edges) (r .members) ⌝ }
 {
     let c = root_flag(ba) + root_flag(bb) * 2;
     let t = records::push(q, RecordIndex(0), c);
@@ -261,7 +262,7 @@ pub fn merge(
     }
     let n = at.tail.0 - from.0;
     let edges = 2 * from.0;
-    Joined { edges, members: n }
+    Sizes { edges, members: n }
 }
 
 // The edges of the union alone, and what is left of their last byte cleared: how many bits they are.
@@ -280,7 +281,7 @@ pub fn unite(
     requires { ⌜ Holds m bb (now b) × (bb / 2 + overread ≤ 4 * length (now b)) ⌝ }
     requires { ⌜ TablesLent (now spreads) (now parts) (now runs) ⌝ }
     requires { ⌜ QueueRoom ba bb (now q) ⌝ }
-    ensures { λ k. ⌜ Written (edgesOf (unionOf (held m ba (now (a .entry))) (held m bb (now (b .entry))))) (now (q .entry)) (now (q .exit)) k ⌝ }
+    ensures { λ k. ⌜ Packed (edgesOf (unionEntry (entryHeld m ba (now (a .entry))) (entryHeld m bb (now (b .entry))))) (now (q .entry)) (now (q .exit)) k ⌝ }
 {
     let u = merge(m, a, ba, b, bb, spreads, parts, runs, q);
     let k = u.edges;

@@ -2,7 +2,7 @@
 use mathlib.Core.Path.{_≡_, refl, ap, _∙_}
 use Prim.Native.Nat.{ℕ, zero, suc, _+_, _*_, _/_, _%_, _≤_, _<_}
 use mathlib.Core.Bool.{or-true}
-use mathlib.Core.List.{List, [], _∷_, _++_}
+use mathlib.Core.List.{List, [], _∷_, _++_, flatten}
 use mathlib.Core.Option.{none, some}
 use mathlib.Core.Logic.{_⊎_, inl, inr}
 use native.Mathlib.Omega.{arith}
@@ -11,15 +11,16 @@ use lib.ListN.{length, take, drop}
 use lib.Dec.{ltb}
 use borrow.Author.Tests.{eq-eqb, ne-eqb}
 use Rattle.loes.specs.Limits.{maxWidth, maxEdges}
-use Rattle.loes.specs.Bytes.{Bytes, tabulate, started, join}
+use Rattle.loes.specs.Bytes.{Bytes, tabulate, started}
 use Rattle.loes.specs.Keys.{Key, less, setOf}
 use Rattle.loes.specs.Edges.{edges}
+use Rattle.loes.specs.Prefixes.{recordsBefore}
 use Rattle.loes.specs.Entry.{keyBytes, edgesOf, edgeCount, wrongWidth, tooManyEdges}
 use Rattle.loes.specs.Refusals.{badWidth, tooLarge, raggedBatch, unusedBitSet, descending, test, firstOf}
 use Rattle.loes.specs.Model.{keyIn, unusedSet, batchKeys, risingTests, packTests, batchEntry}
 use Rattle.loes.proofs.Tests.{lt-yes, lt-no, no-lt, yes-eq, not-false, neither, none-append, none-test, none-first, some-first}
 use Rattle.loes.proofs.Bits.{tabulate-ext, map-tabulate, bits-taken}
-use Rattle.loes.proofs.Navigation.{recordsBefore, length-edgesBefore}
+use Rattle.loes.proofs.Navigation.{length-edgesBefore}
 use Rattle.pack.specs.Rising.{setBelow, Rising}
 use Rattle.pack.specs.Batch.{key, previous, keyTests, testsBelow, Batch}
 use Rattle.pack.specs.Packing.{edgeTests}
@@ -61,7 +62,7 @@ module _ (m : ℕ) (l : Bytes) where
 
   rising-below : (n : ℕ) → risingTests m [] (tabulate bytesOf n) ≡ testsBelow m l n
   unfolding tabulate risingTests
-  rising-below zero = unfold testsBelow tabulate join in refl
+  rising-below zero = unfold testsBelow tabulate flatten in refl
   rising-below (suc n) =
       rw (below-suc m l n, rising-snoc m [] (tabulate bytesOf n) (bytesOf n), rising-below n, last-is n, key-taken m (drop (keyBytes m * n) l), unused-taken m (drop (keyBytes m * n) l))
       (unfold keyTests in refl)

@@ -5,7 +5,7 @@ use mathlib.Core.Bool.{or-false}
 use mathlib.Core.List.{[], _∷_, _++_, append-assoc}
 use mathlib.Core.Option.{Option, none, some}
 use Rattle.loes.specs.Bytes.{Bytes}
-use Rattle.loes.specs.Keys.{any}
+use Rattle.loes.specs.Keys.{anyOf}
 use Rattle.loes.specs.Entry.{Entry, edgeCount, tooManyEdges}
 use Rattle.loes.specs.Refusals.{tooLarge, test, firstOf}
 use Rattle.loes.specs.Model.{refusal, refusedOr, tested, writes, packTests, batchEntry, pack}
@@ -14,10 +14,10 @@ use Rattle.loes.proofs.Tests.{none-append, some-first}
 use Rattle.pack.specs.Packing.{edgeTests}
 
 abbrev large : Entry → Option ℕ
-large e = test (any (λ (e : Entry). tooManyEdges (edgeCount e)) (e ∷ [])) tooLarge
+large e = test (anyOf (λ (e : Entry). tooManyEdges (edgeCount e)) (e ∷ [])) tooLarge
 
 one-large : (m : ℕ) (l : Bytes) → large (batchEntry m l) ≡ test (tooManyEdges (edgeCount (batchEntry m l))) tooLarge
-unfolding any
+unfolding anyOf
 one-large m l = ap (λ b. test b tooLarge) (or-false (tooManyEdges (edgeCount (batchEntry m l))))
 
 -- the call's tests: those of the batch, then its last

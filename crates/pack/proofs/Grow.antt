@@ -10,9 +10,10 @@ use lib.ListN.{length, take}
 use lib.Seq.{length-take-le}
 use lib.Dec.{leb, leb·zero, leb·suc-zero, leb·suc-suc}
 use Rattle.loes.specs.Bytes.{tabulate, bit}
-use Rattle.loes.specs.Keys.{Key, KeySet, any, sameKey, setOf, less}
-use Rattle.loes.proofs.Lists.{any-append}
-use Rattle.loes.proofs.Tree.{half, inhabited, prefixCount, hasPrefix, prefixesBefore, prefix-of, prefix-inhabited, count-one, false-if, count-none}
+use Rattle.loes.specs.Keys.{Key, KeySet, anyOf, sameKey, setOf, less}
+use Rattle.loes.specs.Prefixes.{half, inhabited, prefixCount, prefixesBefore}
+use Rattle.loes.proofs.Lists.{anyOf-append}
+use Rattle.loes.proofs.Tree.{hasPrefix, prefix-of, prefix-inhabited, count-one, false-if, count-none}
 use Rattle.pack.specs.Rising.{commonPrefix, firstNew, setBelow, Rising}
 
 -- a set with one key more
@@ -161,15 +162,15 @@ same-eq (true ∷ j) (true ∷ k) e = rw (same-eq j k e)
 
 -- ---- the first keys of a rising list
 pub below-suc : (f : ℕ → Key) (i : ℕ) → setBelow f (suc i) ≡ insert (setBelow f i) (f i)
-unfolding setBelow insert setOf tabulate any
-below-suc f i = fun-ext (λ j. any-append (sameKey j) (tabulate f i) (f i ∷ []) ∙ ap (λ x. any (sameKey j) (tabulate f i) || x) (or-false (sameKey j (f i))))
+unfolding setBelow insert setOf tabulate anyOf
+below-suc f i = fun-ext (λ j. anyOf-append (sameKey j) (tabulate f i) (f i ∷ []) ∙ ap (λ x. anyOf (sameKey j) (tabulate f i) || x) (or-false (sameKey j (f i))))
 
 pub or-cases : (a b : Bool) → (a || b) ≡ true → (a ≡ true) ⊎ (b ≡ true)
 or-cases true b h = inl refl
 or-cases false b h = inr h
 
 pub below-zero : (f : ℕ → Key) (k : Key) → setBelow f 0 k ≡ false
-unfolding setBelow setOf tabulate any
+unfolding setBelow setOf tabulate anyOf
 below-zero f k = refl
 
 none-found : (p : Key) (m : ℕ) (f : ℕ → Key) → hasPrefix p m (setBelow f 0) ≡ false

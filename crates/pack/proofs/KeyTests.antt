@@ -2,18 +2,18 @@
 use mathlib.Core.Path.{_≡_, refl, sym, ap, _∙_}
 use Prim.Native.Nat.{ℕ, zero, suc, _*_, _<_}
 use mathlib.Core.Bool.{Bool, true, false}
-use mathlib.Core.List.{_++_}
+use mathlib.Core.List.{_++_, flatten}
 use mathlib.Core.Option.{none, some}
 use native.Mathlib.Omega.{arith}
 use native.Mathlib.Decide.{le-ind, decLe}
 use lib.ListN.{drop}
-use Rattle.loes.specs.Bytes.{Bytes, tabulate, join}
+use Rattle.loes.specs.Bytes.{Bytes, tabulate}
 use Rattle.loes.specs.Keys.{less}
 use Rattle.loes.specs.Entry.{keyBytes}
 use Rattle.loes.specs.Refusals.{unusedBitSet, descending, test, firstOf}
 use Rattle.loes.specs.Model.{unusedSet}
 use Rattle.loes.proofs.Tests.{none-append, none-test, none-first, some-first}
-use Rattle.loes.proofs.WellFormed.{join-snoc}
+use Rattle.loes.proofs.WellFormed.{flatten-snoc}
 use Rattle.loes.proofs.Histories.{length-key}
 use Rattle.pack.specs.Rising.{Rising}
 use Rattle.pack.specs.Batch.{key, previous, keyTests, testsBelow, KeyThere}
@@ -40,12 +40,12 @@ module _ (m t i : ℕ) (l : Bytes) (there : KeyThere m t i l) where
 -- ---- the keys below n
 module _ (m : ℕ) (l : Bytes) where
   pub none-tested : firstOf (testsBelow m l 0) ≡ none
-  unfolding testsBelow tabulate join firstOf
+  unfolding testsBelow tabulate flatten firstOf
   none-tested = refl
 
   pub below-suc : (i : ℕ) → testsBelow m l (suc i) ≡ testsBelow m l i ++ keyTests m l i
   unfolding testsBelow tabulate
-  below-suc i = join-snoc (tabulate (keyTests m l) i) (keyTests m l i)
+  below-suc i = flatten-snoc (tabulate (keyTests m l) i) (keyTests m l i)
 
   pub one-more : (i : ℕ) → firstOf (testsBelow m l i) ≡ none → firstOf (testsBelow m l (suc i)) ≡ firstOf (keyTests m l i)
   one-more i h = rw (below-suc i) (none-first (testsBelow m l i) (keyTests m l i) h)

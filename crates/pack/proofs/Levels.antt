@@ -12,9 +12,8 @@ use borrow.Author.Tests.{lt-ltb, le-ltb}
 use Rattle.loes.specs.Bytes.{Bytes, bitAt, started, packBits}
 use Rattle.loes.specs.Keys.{Key, KeySet}
 use Rattle.loes.specs.Edges.{recordBits, edges}
+use Rattle.loes.specs.Prefixes.{prefixCount, recordsBefore}
 use Rattle.loes.specs.Entry.{keyBytes}
-use Rattle.loes.proofs.Tree.{prefixCount}
-use Rattle.loes.proofs.Navigation.{recordsBefore}
 use Rattle.pack.specs.Rising.{firstNew, setBelow, Rising}
 use Rattle.pack.specs.Marking.{maxRecords, setBits, rowOffset, Row, Gap}
 use Rattle.pack.specs.Batch.{key, Markable, Apart, edgesFrom}

@@ -12,9 +12,9 @@ use borrow.Author.Tests.{lt-ltb, le-ltb}
 use Rattle.loes.specs.Bytes.{bit}
 use Rattle.loes.specs.Keys.{Key, KeySet}
 use Rattle.loes.specs.Edges.{Record, recordBits, edgesBefore}
+use Rattle.loes.specs.Prefixes.{half, inhabited, prefixCount, prefixesBefore, recordsBefore}
 use Rattle.loes.proofs.Lists.{bits-append, length-bits}
-use Rattle.loes.proofs.Tree.{half, inhabited, rootRecord, treeLevel, prefixCount, hasPrefix, prefixesBefore, before-lt, bit-le, prefix-of, prefix-start, prefix-whole, level-tree}
-use Rattle.loes.proofs.Navigation.{recordsBefore}
+use Rattle.loes.proofs.Tree.{hasPrefix, rootRecord, treeLevel, before-lt, bit-le, prefix-of, prefix-start, prefix-whole, level-tree}
 use Rattle.pack.proofs.Grow.{insert, half-in, half-ft, half-tf, inhabited-insert}
 
 -- level d of s, where a bit is set if a key of t goes that way

@@ -11,12 +11,12 @@ use borrow.Author.Tests.{lt-leb, lt-ltb, not-false}
 use Rattle.loes.specs.Bytes.{bit, tabulate, bitsValue, byteOf, packBits, started}
 use Rattle.loes.specs.Keys.{Key, KeySet}
 use Rattle.loes.specs.Edges.{recordBits, edges}
+use Rattle.loes.specs.Prefixes.{half, inhabited, prefixCount, recordsBefore}
 use Rattle.loes.proofs.Lists.{bits-append}
 use Rattle.loes.proofs.Tests.{neither}
-use Rattle.loes.proofs.Tree.{half, inhabited, prefixCount, hasPrefix}
-use Rattle.loes.proofs.Navigation.{recordsBefore}
 use Rattle.loes.proofs.Bytes.{length-packed}
 use Rattle.loes.proofs.Bits.{tabulate-ext}
+use Rattle.loes.proofs.Tree.{hasPrefix}
 use Rattle.pack.specs.Rising.{firstNew, setBelow, Rising}
 use Rattle.pack.specs.Marking.{setBits}
 use Rattle.pack.proofs.Grow.{inhabited-none, below-zero, below-suc, in-below, found-before, place}

@@ -8,15 +8,15 @@ use lib.ListN.{length, getD, replicate}
 use Rattle.loes.specs.Limits.{maxWidth}
 use Rattle.loes.specs.Bytes.{Bytes, started, packBits}
 use Rattle.loes.specs.Edges.{edges}
+use Rattle.loes.specs.Prefixes.{recordsBefore}
 use Rattle.loes.specs.Entry.{keyBytes, edgesOf, edgeCount}
 use Rattle.loes.specs.Refusals.{tooLarge, firstOf}
 use Rattle.loes.specs.Model.{batchEntry}
-use Rattle.loes.proofs.Navigation.{recordsBefore}
 use Rattle.pack.specs.Rising.{setBelow}
 use Rattle.pack.specs.Marking.{sumBelow, maxRecords, Starts}
 use Rattle.pack.specs.Batch.{key, RecordsCounted, Unmarked}
 use Rattle.pack.specs.Packing.{edgeTests, Planned, Unfilled}
-use Rattle.pack.specs.declared.Checked.the-variants.{Accepted}
+use Rattle.pack.specs.declared.Verdict.the-variants.{Accepted}
 use Rattle.pack.proofs.Sums.{sum-records}
 use Rattle.pack.proofs.Turn.{counted-le}
 use Rattle.pack.proofs.Places.{few-keys}

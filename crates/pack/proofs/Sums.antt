@@ -13,8 +13,7 @@ use Rattle.loes.specs.Bytes.{bit}
 use Rattle.loes.proofs.Bytes.{length-tabulate, getD-tabulate}
 use Rattle.loes.proofs.Tests.{lt-yes, lt-no}
 use Rattle.loes.specs.Keys.{KeySet}
-use Rattle.loes.proofs.Tree.{prefixCount}
-use Rattle.loes.proofs.Navigation.{recordsBefore}
+use Rattle.loes.specs.Prefixes.{prefixCount, recordsBefore}
 use Rattle.pack.specs.Marking.{Bumped, sumBelow, running}
 
 pub sum-none : (l : List ℕ) → sumBelow l 0 ≡ 0

@@ -12,12 +12,12 @@ use lib.Dec.{leb}
 use borrow.Author.Tests.{lt-leb, le-leb}
 use Rattle.loes.specs.Bytes.{Bytes, bit, bitAt, started, packBits}
 use Rattle.loes.specs.Keys.{Key, KeySet}
+use Rattle.loes.specs.Prefixes.{prefixCount, prefixesBefore, recordsBefore}
 use Rattle.loes.specs.Entry.{keyBytes}
 use Rattle.loes.specs.Model.{keyIn}
-use Rattle.loes.proofs.Tree.{prefixCount, bit-le, hasPrefix, prefixesBefore, before-lt, prefix-of}
-use Rattle.loes.proofs.Navigation.{recordsBefore}
+use Rattle.loes.proofs.Tree.{hasPrefix, bit-le, before-lt, prefix-of}
 use Rattle.pack.specs.Rising.{firstNew, setBelow, Rising}
-use Rattle.pack.specs.Marking.{Bumped, maxRecords, offsetOf, setBits, Room}
+use Rattle.pack.specs.Marking.{Bumped, maxRecords, offsetOf, setBits, KeyFits}
 use Rattle.pack.proofs.Grow.{count-step, count-start, place, in-below}
 use Rattle.pack.proofs.Prefixes.{key-bit}
 use Rattle.pack.proofs.Order.{new-bit}
@@ -25,10 +25,10 @@ use Rattle.pack.proofs.Marked.{markedEdges, edgeOffset, splitAt}
 use Rattle.pack.proofs.Pass.{mark-key, offset-is}
 
 -- on each level before one so many records lie before it, and so many of its own were counted with i keys
-abbrev pub Counted : ℕ → ℕ → (ℕ → ℕ) → (ℕ → Key) → ℕ → List ℕ → Type 0
-Counted top m base f i l = (e : ℕ) → e < top → getD l e 0 ≡ base e + prefixCount e m (setBelow f i)
+abbrev pub KeysCounted : ℕ → ℕ → (ℕ → ℕ) → (ℕ → Key) → ℕ → List ℕ → Type 0
+KeysCounted top m base f i l = (e : ℕ) → e < top → getD l e 0 ≡ base e + prefixCount e m (setBelow f i)
 
-pub none-yet : (top m : ℕ) (base : ℕ → ℕ) (f : ℕ → Key) (l : List ℕ) → ((e : ℕ) → e < top → getD l e 0 ≡ base e) → Counted top m base f 0 l
+pub none-yet : (top m : ℕ) (base : ℕ → ℕ) (f : ℕ → Key) (l : List ℕ) → ((e : ℕ) → e < top → getD l e 0 ≡ base e) → KeysCounted top m base f 0 l
 none-yet top m base f l z = λ e h. omega (arith, z e h, count-start m f e)
 
 module _ (m n : ℕ) (base : ℕ → ℕ) (f : ℕ → Key) (r : Rising m n f) where
@@ -36,11 +36,11 @@ module _ (m n : ℕ) (base : ℕ → ℕ) (f : ℕ → Key) (r : Rising m n f) w
   count-le zero e h l = omega (arith, count-start m f e)
   count-le (suc i) e h l = omega (arith, count-step m n f r i e h (omega arith), count-le i e (omega arith) l, bit-le (leb (firstNew f i) e))
 
-  pub counted-le : (i : ℕ) (l : List ℕ) → i ≤ n → Counted m m base f i l → (e : ℕ) → e < m → getD l e 0 ≤ base e + i
+  pub counted-le : (i : ℕ) (l : List ℕ) → i ≤ n → KeysCounted m m base f i l → (e : ℕ) → e < m → getD l e 0 ≤ base e + i
   counted-le i l h c e le = omega (arith, c e le, count-le i e h le)
 
-  pub counted-more : (top i from : ℕ) (old new : List ℕ) → top ≤ m → i < n → from ≡ firstNew f i → Bumped from top old new → Counted top m base f i old
-      → Counted top m base f (i + 1) new
+  pub counted-more : (top i from : ℕ) (old new : List ℕ) → top ≤ m → i < n → from ≡ firstNew f i → Bumped from top old new → KeysCounted top m base f i old
+      → KeysCounted top m base f (i + 1) new
   counted-more top i from old new t h q u c = λ e le.
       rw (add-one i) (omega (arith, u .each e le, c e le, count-step m n f r i e h (omega arith), ap (λ x. bit (leb x e)) q))
 
@@ -81,13 +81,13 @@ module _ (m n : ℕ) (f : ℕ → Key) (r : Rising m n f) where
       let q : prefixesBefore (take e k) m (setBelow f n) < prefixCount e m (setBelow f n) = rw lt at (before-lt (take e k) m (setBelow f n) w) in
       omega (arith, place m n f r i e h (omega arith))
 
-  module _ (top i new : ℕ) (cursors : List ℕ) (t : top ≤ m) (h : i < n) (c : Counted top m before f i cursors) (is : new ≡ firstNew f i) where
+  module _ (top i new : ℕ) (cursors : List ℕ) (t : top ≤ m) (h : i < n) (c : KeysCounted top m before f i cursors) (is : new ≡ firstNew f i) where
     -- the cursor of a level moves behind the record of key i
     cursor : (e : ℕ) → e < top → getD cursors e 0 + bit (leb new e) ≡ before e + prefixCount e m (setBelow f (suc i))
     cursor e l = rw is (omega (arith, c e l, count-step m n f r i e h (omega arith)))
 
     pub room-mark : (key edges : Bytes) → keyIn m key ≡ f i → keyBytes m ≤ length key → m ≤ length cursors → before m ≤ maxRecords → length edges ≡ started 8 (2 * before m)
-        → Room top new key cursors edges
+        → KeyFits top new key cursors edges
     unfolding started keyBytes
     room-mark key edges k far long few len =
         record {

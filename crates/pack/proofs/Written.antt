@@ -12,11 +12,11 @@ use Rattle.loes.specs.Encode.{encode}
 use Rattle.loes.specs.Read.{endOf}
 use Rattle.loes.specs.Refusals.{shortBuffer, firstOf}
 use Rattle.loes.specs.Model.{wrote, refusal, batchEntry}
-use Rattle.loes.specs.Held.{held}
+use Rattle.loes.specs.Held.{entryHeld}
 use Rattle.loes.specs.Calls.{packCall}
 use Rattle.loes.proofs.Reading.{encode-length}
 use Rattle.loes.proofs.Writes.{writes-short, writes-fits}
-use Rattle.build.specs.Writing.{Sealed}
+use Rattle.build.specs.Writing.{HoldsOnly}
 use Rattle.build.proofs.Sealing.{held-back, sealed-back}
 use Rattle.pack.specs.Packing.{edgeTests}
 use Rattle.pack.proofs.Valid.{batch-valid}
@@ -33,11 +33,11 @@ module _ (m b : ℕ) (l : Bytes) (accepted : firstOf (edgeTests m l) ≡ none) (
   unfolding batchEntry
   batch-small = (valid .narrow, omega (arith, count, valid .few))
 
-  pub batch-sealed : Sealed m b (packBits (edgesOf e))
+  pub batch-sealed : HoldsOnly m b (packBits (edgesOf e))
   unfolding batchEntry
   batch-sealed = rw count (sealed-back e valid)
 
-  pub batch-held : held m b (packBits (edgesOf e)) ≡ e
+  pub batch-held : entryHeld m b (packBits (edgesOf e)) ≡ e
   unfolding batchEntry
   batch-held = rw count (held-back e valid)
 

@@ -2,22 +2,21 @@
 use mathlib.Core.Path.{_≡_}
 use Prim.Native.Nat.{ℕ, zero, suc, _-_, _*_, _/_, _^_, _<_, _≤_}
 use mathlib.Core.Bool.{Bool, false}
-use mathlib.Core.List.{List, [], _∷_, _++_}
+use mathlib.Core.List.{List, [], _++_, flatten}
 use mathlib.Core.Option.{none, some}
 use lib.ListN.{length, getD, drop, replicate}
 use Rattle.loes.specs.Limits.{maxWidth}
-use Rattle.loes.specs.Bytes.{Bytes, odd, tabulate, join, started}
-use Rattle.loes.specs.Keys.{Key, KeySet, less}
+use Rattle.loes.specs.Bytes.{Bytes, odd, tabulate, started}
+use Rattle.loes.specs.Keys.{Key, KeySet}
 use Rattle.loes.specs.Edges.{edges}
+use Rattle.loes.specs.Prefixes.{prefixCount, recordsBefore}
 use Rattle.loes.specs.Entry.{keyBytes}
-use Rattle.loes.specs.Refusals.{unusedBitSet, descending, Tests, test, firstOf}
-use Rattle.loes.specs.Model.{keyIn, unusedSet}
-use Rattle.loes.proofs.Tree.{prefixCount}
-use Rattle.loes.proofs.Navigation.{recordsBefore}
+use Rattle.loes.specs.Refusals.{Tests, firstOf}
+use Rattle.loes.specs.Model.{keyIn, pairTests}
 use Rattle.pack.specs.Rising.{firstNew, setBelow, Rising}
 use Rattle.pack.specs.Marking.{maxRecords}
-use Rattle.pack.specs.declared.Checked.{Checked}
-use Rattle.pack.specs.declared.Checked.the-variants.{Refused, Accepted}
+use Rattle.pack.specs.declared.Verdict.{Verdict}
+use Rattle.pack.specs.declared.Verdict.the-variants.{Refused, Accepted}
 
 -- the bytes agree below n, which is t or a place where they differ
 pub record SameBytes (x y : Bytes) (t n : ℕ) : Type 0 where
@@ -49,14 +48,13 @@ previous f (suc i) = f i
 
 -- 11 and 12 of key i, and of the first n keys
 unfoldable pub keyTests : ℕ → Bytes → ℕ → Tests
-keyTests m l i =
-    test (unusedSet m (drop (keyBytes m * i) l)) unusedBitSet ∷ test (less (key m l i) (previous (key m l) i)) descending ∷ []
+keyTests m l i = pairTests m (previous (key m l) i) (drop (keyBytes m * i) l)
 
 unfoldable pub testsBelow : ℕ → Bytes → ℕ → Tests
-testsBelow m l n = join (tabulate (keyTests m l) n)
+testsBelow m l n = flatten (tabulate (keyTests m l) n)
 
 -- key i is refused, or its first new length is told
-abbrev pub KeyChecked : ℕ → Bytes → ℕ → Checked → Type 0
+abbrev pub KeyChecked : ℕ → Bytes → ℕ → Verdict → Type 0
 KeyChecked m l i (Refused k) = firstOf (keyTests m l i) ≡ some k
 KeyChecked m l i (Accepted e) = (firstOf (keyTests m l i) ≡ none) × (e ≡ firstNew (key m l) i)
 
@@ -74,7 +72,7 @@ pub record Uncounted (m t n : ℕ) (l : Bytes) (counts : List ℕ) : Type 0 wher
   pub zero : (e : ℕ) → e < m → getD counts e 0 ≡ 0
 
 -- a key is refused, or all n pass and the records of each level are counted
-abbrev pub RecordsCounted : ℕ → ℕ → Bytes → List ℕ → Checked → Type 0
+abbrev pub RecordsCounted : ℕ → ℕ → Bytes → List ℕ → Verdict → Type 0
 RecordsCounted m n l counts (Refused k) = firstOf (testsBelow m l n) ≡ some k
 RecordsCounted m n l counts (Accepted b) =
     (firstOf (testsBelow m l n) ≡ none) × ((e : ℕ) → e < m → getD counts e 0 ≡ prefixCount e m (setBelow (key m l) n)) × (b ≡ n)

@@ -55,8 +55,13 @@ offsetOf cursors new key e = 2 * (getD cursors e 0 + bit (leb new e) - 1) + bit 
 unfoldable pub secondEdges : List ℕ → ℕ → ℕ
 secondEdges cursors e = 2 * getD cursors e 0 - 1
 
+-- the level above the first new one, if there is one, has a last record, and it lies in the edge bytes
+abbrev pub AboveFits : ℕ → List ℕ → Bytes → Type 0
+AboveFits new cursors edges =
+    0 < new → (new ≤ length cursors) × (0 < getD cursors (new - 1) 0) × (2 * getD cursors (new - 1) 0 ≤ 8 * length edges)
+
 -- there is that record, and it lies in the edge bytes
-pub record Room (m new : ℕ) (key : Bytes) (cursors : List ℕ) (edges : Bytes) : Type 0 where
+pub record KeyFits (m new : ℕ) (key : Bytes) (cursors : List ℕ) (edges : Bytes) : Type 0 where
   pub far : keyBytes m ≤ length key
   pub long : m ≤ length cursors
   pub some : (e : ℕ) → e < m → 0 < getD cursors e 0 + bit (leb new e)

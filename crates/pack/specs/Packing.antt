@@ -6,12 +6,12 @@ use mathlib.Core.Option.{none, some}
 use lib.ListN.{length, getD}
 use Rattle.loes.specs.Limits.{maxWidth}
 use Rattle.loes.specs.Bytes.{Bytes, started}
+use Rattle.loes.specs.Prefixes.{recordsBefore}
 use Rattle.loes.specs.Entry.{edgeCount, tooManyEdges}
 use Rattle.loes.specs.Refusals.{tooLarge, Tests, test, firstOf}
 use Rattle.loes.specs.Model.{packTests, batchEntry}
-use Rattle.loes.proofs.Navigation.{recordsBefore}
-use Rattle.pack.specs.declared.Checked.{Checked}
-use Rattle.pack.specs.declared.Checked.the-variants.{Refused, Accepted}
+use Rattle.pack.specs.declared.Verdict.{Verdict}
+use Rattle.pack.specs.declared.Verdict.the-variants.{Refused, Accepted}
 
 -- 4, 10, then key by key 11 and 12, then 5
 unfoldable pub edgeTests : ℕ → Bytes → Tests
@@ -28,7 +28,7 @@ pub record Ready (m : ℕ) (l : Bytes) (levels : List ℕ) : Type 0 where
   pub accepted : firstOf (edgeTests m l) ≡ none
   pub starts : (e : ℕ) → e < m → getD levels e 0 ≡ recordsBefore e m (batchEntry m l .set)
 
-abbrev pub Planned : ℕ → Bytes → List ℕ → Checked → Type 0
+abbrev pub Planned : ℕ → Bytes → List ℕ → Verdict → Type 0
 Planned m l levels (Refused k) = firstOf (edgeTests m l) ≡ some k
 Planned m l levels (Accepted b) = Ready m l levels × (b ≡ edgeCount (batchEntry m l))
 

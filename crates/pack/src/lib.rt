@@ -3,7 +3,7 @@ ghost use mathlib.Core.Path.{_≡_};
 ghost use Prim.Native.Nat.{ℕ, _+_, _-_, _*_, _/_, _%_, _^_, _<_, _≤_};
 ghost use lib.ListN.{length, drop, getD, replicate};
 ghost use Rattle.loes.specs.Limits.{maxWidth, maxEdges};
-ghost use Rattle.loes.specs.Edges.{edges as edgesIn};
+ghost use Rattle.loes.specs.Edges.{edges as edgeSequence};
 ghost use Rattle.loes.specs.Bytes.{packBits, bit, bitAt};
 ghost use Rattle.loes.specs.Keys.{less};
 ghost use Rattle.loes.specs.Entry.{keyBytes, edgesOf, edgeCount};
@@ -12,7 +12,7 @@ ghost use Rattle.loes.specs.Calls.{packCall};
 ghost use Rattle.build.specs.Writing.{writtenOutcome};
 ghost use Rattle.pack.specs.Packing.{Blank, Ready, Planned, Unfilled};
 ghost use Rattle.pack.specs.Rising.{commonPrefix, firstNew, setBelow};
-ghost use Rattle.pack.specs.Marking.{Bumped, running, Starts, maxRecords, Gap, Masks, setBit, setBits, secondEdges, offsetOf, Room, Row, rowOffset};
+ghost use Rattle.pack.specs.Marking.{Bumped, running, Starts, maxRecords, Gap, Masks, setBit, setBits, secondEdges, offsetOf, AboveFits, KeyFits, Row, rowOffset};
 ghost use Rattle.pack.specs.Batch.{SameBytes, FirstDifference, key, previous, KeyThere, KeyChecked, Uncounted, RecordsCounted, Markable, Unmarked, Apart, edgesFrom};
 use bits::EdgeOffset;
 use bits::RecordIndex;
@@ -24,7 +24,7 @@ use loes::refusal;
 const MAX_RECORDS: usize = Encoding::MAX_EDGES / 2;
 
 // A refusal's number, or the number asked for.
-pub enum Checked {
+pub enum Verdict {
     Refused(u8),
     Accepted(usize),
 }
@@ -95,7 +95,7 @@ fn common_prefix(x: &[u8], y: &[u8], m: usize) -> usize
     requires { ⌜ (m ≤ maxWidth) × ((keyBytes m ≤ length (now x)) × (keyBytes m ≤ length (now y))) ⌝ }
     ensures { λ r. ⌜ r ≡ commonPrefix (keyIn m (now (x .entry))) (keyIn m (now (y .entry))) ⌝ }
 {
-    let t = (m + 7) / 8;
+    let t = bits::bytes_for(m);
     let j = same_bytes(x, y, t);
     if j == t {
         return m;
@@ -136,19 +136,19 @@ fn descends(batch: &[u8], i: usize, new: usize, t: usize, m: usize) -> bool
 }
 
 // Refuses key i with 11 or 12, or tells the least length of which it has a new prefix.
-fn check_key(batch: &[u8], i: usize, t: usize, m: usize) -> Checked
+fn check_key(batch: &[u8], i: usize, t: usize, m: usize) -> Verdict
     requires { ⌜ KeyThere m t i (now batch) ⌝ }
     ensures { λ r. ⌜ KeyChecked m (now (batch .entry)) i r ⌝ }
 {
     let at = t * i;
     if bits::unused_set(&batch[at..], t, m) {
-        return Checked::Refused(refusal::UNUSED_BIT_SET);
+        return Verdict::Refused(refusal::UNUSED_BIT_SET);
     }
     let new = first_new(batch, i, t, m);
     if descends(batch, i, new, t, m) {
-        return Checked::Refused(refusal::DESCENDING);
+        return Verdict::Refused(refusal::DESCENDING);
     }
-    Checked::Accepted(new)
+    Verdict::Accepted(new)
 }
 
 // One record more on each level from a level on, noted at that level alone; none where the key is that before it.
@@ -162,7 +162,7 @@ fn note(counts: &mut [usize], from: usize, m: usize)
 }
 
 // Checks the keys one by one, and notes where each has its first new record.
-fn count_records(batch: &[u8], n: usize, t: usize, m: usize, counts: &mut [usize]) -> Checked
+fn count_records(batch: &[u8], n: usize, t: usize, m: usize, counts: &mut [usize]) -> Verdict
     requires { ⌜ Uncounted m t n (now batch) (now counts) ⌝ }
     ensures { λ r. ⌜ RecordsCounted m n (now (batch .entry)) (running (now (counts .exit)) m) r ⌝ }
 {
@@ -170,16 +170,16 @@ fn count_records(batch: &[u8], n: usize, t: usize, m: usize, counts: &mut [usize
     while i < n {
         let checked = check_key(batch, i, t, m);
         match checked {
-            Checked::Refused(k) => {
-                return Checked::Refused(k);
+            Verdict::Refused(k) => {
+                return Verdict::Refused(k);
             }
-            Checked::Accepted(new) => {
+            Verdict::Accepted(new) => {
                 note(counts, new, m);
             }
         }
         i += 1;
     }
-    Checked::Accepted(n)
+    Verdict::Accepted(n)
 }
 
 // Puts the records before each level in place of what is noted at it; how many there are in all, or so far where there are too many.
@@ -223,7 +223,7 @@ fn set_bit(b: &mut [u8], o: EdgeOffset, masks: &[u8])
 
 // The last record of the level above the first new one gets its second edge; there is no such level for the first key.
 fn mark_above(new: usize, cursors: &[usize], edges: &mut [u8], masks: &[u8])
-    requires { ⌜ (0 < new → (new ≤ length (now cursors)) × (0 < getD (now cursors) (new - 1) 0) × (2 * getD (now cursors) (new - 1) 0 ≤ 8 * length (now edges))) × (length (now edges) ≤ maxEdges / 8) × Masks (now masks) ⌝ }
+    requires { ⌜ AboveFits new (now cursors) (now edges) × (length (now edges) ≤ maxEdges / 8) × Masks (now masks) ⌝ }
     ensures { λ _. ⌜ now (edges .exit) ≡ setBits (secondEdges (now (cursors .entry))) (new - 1) (new - (new - 1)) (now (edges .entry)) ⌝ }
 {
     if new == 0 {
@@ -235,7 +235,7 @@ fn mark_above(new: usize, cursors: &[usize], edges: &mut [u8], masks: &[u8])
 
 // Moves the cursors of the levels on which a key has a new record, and sets its edges there and on the level above.
 fn mark_key(key: &[u8], new: usize, m: usize, cursors: &mut [usize], edges: &mut [u8], masks: &[u8])
-    requires { ⌜ Room m new (now key) (now cursors) (now edges) × Masks (now masks) ⌝ }
+    requires { ⌜ KeyFits m new (now key) (now cursors) (now edges) × Masks (now masks) ⌝ }
     ensures moved { λ _. ⌜ Bumped new m (now (cursors .entry)) (now (cursors .exit)) ⌝ }
     ensures set { λ _. ⌜ now (edges .exit) ≡ setBits (offsetOf (now (cursors .entry)) new (now (key .entry))) (new - 1) (m - (new - 1)) (now (edges .entry)) ⌝ }
 {
@@ -266,7 +266,7 @@ fn mark_keys(
 )
     requires { ⌜ Markable m t n (now batch) (now cursors) × Apart m n top (setBelow (key m (now batch)) n) ⌝ }
     requires { ⌜ (now edges ≡ packBits (edgesFrom top m (setBelow (key m (now batch)) n))) × Masks (now masks) ⌝ }
-    ensures { λ _. ⌜ now (edges .exit) ≡ packBits (edgesIn m (setBelow (key m (now (batch .entry))) n)) ⌝ }
+    ensures { λ _. ⌜ now (edges .exit) ≡ packBits (edgeSequence m (setBelow (key m (now (batch .entry))) n)) ⌝ }
 {
     let mut i = 0;
     while i < n {
@@ -410,15 +410,15 @@ fn mark_levels(
 }
 
 // Fewer keys than this are sooner marked one by one.
-const FEW: usize = 16;
+const FEW_KEYS: usize = 16;
 
 // Sets the edges of all keys: those of the levels on which they are apart, then the others.
 fn mark_all(batch: &[u8], n: usize, t: usize, m: usize, cursors: &mut [usize], edges: &mut [u8])
     requires { ⌜ Unmarked m t n (now batch) (now cursors) (now edges) ⌝ }
-    ensures { λ _. ⌜ now (edges .exit) ≡ packBits (edgesIn m (setBelow (key m (now (batch .entry))) n)) ⌝ }
+    ensures { λ _. ⌜ now (edges .exit) ≡ packBits (edgeSequence m (setBelow (key m (now (batch .entry))) n)) ⌝ }
 {
     let masks = masks();
-    if n < FEW {
+    if n < FEW_KEYS {
         mark_keys(batch, n, t, m, m, cursors, edges, &masks);
         return;
     }
@@ -447,29 +447,29 @@ fn no_records() -> [usize; Encoding::MAX_WIDTH]
 }
 
 // Refuses a batch, or tells how many edge bits its entry has, and the records before each level.
-fn plan(m: usize, batch: &[u8], levels: &mut [usize]) -> Checked
+fn plan(m: usize, batch: &[u8], levels: &mut [usize]) -> Verdict
     requires { ⌜ Blank (now levels) ⌝ }
     ensures { λ r. ⌜ Planned m (now (batch .entry)) (now (levels .exit)) r ⌝ }
 {
     if m == 0 {
-        return Checked::Refused(refusal::BAD_WIDTH);
+        return Verdict::Refused(refusal::BAD_WIDTH);
     }
     if m > Encoding::MAX_WIDTH {
-        return Checked::Refused(refusal::BAD_WIDTH);
+        return Verdict::Refused(refusal::BAD_WIDTH);
     }
-    let t = (m + 7) / 8;
+    let t = bits::bytes_for(m);
     if batch.len() % t != 0 {
-        return Checked::Refused(refusal::RAGGED_BATCH);
+        return Verdict::Refused(refusal::RAGGED_BATCH);
     }
     let counted = count_records(batch, batch.len() / t, t, m, levels);
-    if let Checked::Refused(k) = counted {
-        return Checked::Refused(k);
+    if let Verdict::Refused(k) = counted {
+        return Verdict::Refused(k);
     }
     let records = level_starts(levels, m);
     if records > MAX_RECORDS {
-        return Checked::Refused(refusal::TOO_LARGE);
+        return Verdict::Refused(refusal::TOO_LARGE);
     }
-    Checked::Accepted(2 * records)
+    Verdict::Accepted(2 * records)
 }
 
 // The edge bytes of a planned batch, whatever was in the buffer.
@@ -477,7 +477,7 @@ fn fill(batch: &[u8], m: usize, levels: &mut [usize], edges: &mut [u8])
     requires { ⌜ Unfilled m (now batch) (now levels) (now edges) ⌝ }
     ensures { λ _. ⌜ now (edges .exit) ≡ packBits (edgesOf (batchEntry m (now (batch .entry)))) ⌝ }
 {
-    let t = (m + 7) / 8;
+    let t = bits::bytes_for(m);
     clear(edges);
     mark_all(batch, batch.len() / t, t, m, levels, edges);
 }
@@ -491,8 +491,8 @@ fn write_planned(m: usize, b: usize, batch: &[u8], levels: &mut [usize], out: &m
     if build::too_short(m, b, out.len()) {
         return Written::Refused(refusal::SHORT_BUFFER);
     }
-    let at = build::edges_at(m);
-    let end = at + (b + 7) / 8;
+    let at = build::edges_start(m);
+    let end = at + bits::bytes_for(b);
     fill(batch, m, levels, &mut out[at..end]);
     let t = bits::tallies();
     build::write_around_edges(m, b, &t, out);
@@ -506,7 +506,7 @@ pub fn pack(m: usize, batch: &[u8], out: &mut [u8]) -> Written
     let mut levels = no_records();
     let planned = plan(m, batch, &mut levels);
     match planned {
-        Checked::Refused(k) => Written::Refused(k),
-        Checked::Accepted(b) => write_planned(m, b, batch, &mut levels, out),
+        Verdict::Refused(k) => Written::Refused(k),
+        Verdict::Accepted(b) => write_planned(m, b, batch, &mut levels, out),
     }
 }

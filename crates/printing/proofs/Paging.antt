@@ -1,18 +1,18 @@
 -- One more line, one page behind another.
 use mathlib.Core.Path.{_≡_, refl, sym, ap, ap₂, _∙_}
 use Prim.Native.Nat.{ℕ, zero, suc, _+_, _-_, _≤_, _<_}
-use mathlib.Core.List.{List, [], _++_, append-assoc, append-nil}
+use mathlib.Core.List.{List, [], _++_, append-assoc, append-nil, flatten}
 use native.Mathlib.Omega.{arith}
 use lib.ListN.{length, take, drop, getD, replicate}
 use lib.Seq.{take-at}
 use Rattle.loes.specs.Limits.{maxWidth}
-use Rattle.loes.specs.Bytes.{Bytes, join, started, packBits, front}
+use Rattle.loes.specs.Bytes.{Bytes, started, packBits, front}
 use Rattle.loes.specs.Entry.{Entry, keyBytes, keysOf, count, Valid}
 use Rattle.loes.specs.Read.{entryIn}
 use Rattle.loes.specs.Model.{wroteKey}
 use Rattle.loes.specs.Cursor.{Advanced, before, padded, isCursorOf, nextIndex, advance}
 use Rattle.loes.proofs.Members.{key-bytes}
-use Rattle.loes.proofs.Cursors.{noOffsets, cursorAt, right-at, right-none, next-at, advance-on}
+use Rattle.loes.proofs.Cursors.{cursorAt, right-at, right-none, next-at, advance-on}
 use Rattle.encoding.specs.declared.Encoding.{Encoding}
 use Rattle.encoding.specs.Opened.{Opens}
 use Rattle.cursor.specs.declared.Stepped.{Stepped}
@@ -51,7 +51,7 @@ module _ (e : Entry) (v : Valid e) (p : Page) (s : Stands e p) (lt : p .index .0
 
 -- before the first member
 pub first-stands : (e : Entry) (p : Page) → cursorOf (p .cursor) ≡ record { state = before; offsets = replicate maxWidth 0 } → p .index .0 ≡ 0 → Stands e p
-unfolding noOffsets padded nextIndex
+unfolding padded nextIndex
 first-stands e p c z = record { right = ap (isCursorOf e) c ∙ right-none e .0; next = ap (nextIndex e) c ∙ sym z; within = omega arith }
 
 -- ---- A page so far
@@ -94,8 +94,8 @@ lines-add e i n (suc m) =
     rw (z, y) (ap (λ x. x ++ l) (lines-add e i n m) ∙ append-assoc (linesFrom e i n) (linesFrom e (i + n) m) l)
 
 -- from a page on, up to the last member
-rest : (e : Entry) (p : Page) (texts : List Bytes) → Printed e p texts → (n : ℕ) × (p .index .0 + n ≡ count e) × (join texts ≡ linesFrom e (p .index .0) n)
-unfolding join linesFrom
+rest : (e : Entry) (p : Page) (texts : List Bytes) → Printed e p texts → (n : ℕ) × (p .index .0 + n ≡ count e) × (flatten texts ≡ linesFrom e (p .index .0) n)
+unfolding flatten linesFrom
 rest e p texts (over _ h) = (0, omega arith, refl)
 rest e p texts (page _ r q d d' ts z f h more) =
     let m = rest e q ts more in

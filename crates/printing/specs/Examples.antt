@@ -4,7 +4,7 @@ use mathlib.Core.List.{[], _∷_}
 use Rattle.loes.specs.Examples.{three}
 use Rattle.printing.specs.Text.{decimal, hex, refusedLine, linesOf}
 
-pub record Examples : Type 0 where
+pub record TextExamples : Type 0 where
   -- "width 3 tickets 3 edges 12\n0 00\n1 60\n2 C0\n"
   pub p2 : linesOf three
       ≡ 119 ∷ 105 ∷ 100 ∷ 116 ∷ 104 ∷ 32 ∷ 51 ∷ 32 ∷ 116 ∷ 105 ∷ 99 ∷ 107 ∷ 101 ∷ 116 ∷ 115 ∷ 32 ∷ 51 ∷ 32 ∷ 101 ∷ 100 ∷ 103 ∷ 101 ∷ 115 ∷ 32 ∷ 49 ∷ 50 ∷ 10

@@ -2,9 +2,9 @@
 use mathlib.Core.Path.{_≡_}
 use Prim.Native.Nat.{ℕ, _+_, _<_, _≤_}
 use mathlib.Core.Bool.{true}
-use mathlib.Core.List.{List, [], _∷_, _++_}
+use mathlib.Core.List.{List, [], _∷_, _++_, flatten}
 use lib.ListN.{length, take}
-use Rattle.loes.specs.Bytes.{Bytes, join}
+use Rattle.loes.specs.Bytes.{Bytes}
 use Rattle.loes.specs.Entry.{Entry, count}
 use Rattle.loes.specs.Cursor.{isCursorOf, nextIndex}
 use Rattle.cursor.specs.Steps.{cursorOf}
@@ -42,4 +42,4 @@ pub data Printed (e : Entry) : Page → List Bytes → Type 0 where
 
 -- behind the first line they are all the lines of the entry
 abbrev pub PagesAreLines : Type 0
-PagesAreLines = (e : Entry) (p : Page) (texts : List Bytes) → p .index .0 ≡ 0 → Printed e p texts → firstLine e ++ join texts ≡ linesOf e
+PagesAreLines = (e : Entry) (p : Page) (texts : List Bytes) → p .index .0 ≡ 0 → Printed e p texts → firstLine e ++ flatten texts ≡ linesOf e

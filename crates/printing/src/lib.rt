@@ -22,8 +22,6 @@ use libc::STDOUT_FILENO;
 // Room for any line: an index of 20 digits, a space, a key of 32 bytes and a line feed are 86 bytes, and the first line is no longer.
 const LINE: usize = 96;
 
-const KEY_BYTES: usize = Encoding::MAX_WIDTH / 8;
-
 const LINE_FEED: u8 = b'\n';
 
 const SPACE: u8 = b' ';
@@ -156,12 +154,12 @@ fn put_next(l: &[u8], t: &[u8], e: Encoding, p: Page, text: &mut [u8]) -> Page
     requires { ⌜ Opens (now l) e × Tallies (now t) × Stands (entryIn (now l)) p × (p .index .0 < e .count) × (p .length + maxLine ≤ length (now text)) ⌝ }
     ensures { λ r. ⌜ PutsNext (entryIn (now (l .entry))) p (now (text .entry)) r (now (text .exit)) ⌝ }
 {
-    let mut key = [0u8; KEY_BYTES];
+    let mut key = [0u8; Encoding::MAX_KEY_BYTES];
     let from = p.cursor;
     let stepped = moved(l, t, e, from, &mut key);
     let cursor = stepped.cursor;
     let index = p.index;
-    let k = (e.width + 7) / 8;
+    let k = bits::bytes_for(e.width);
     let length = put_member(text, p.length, index, &key[..k]);
     Page {
         cursor,

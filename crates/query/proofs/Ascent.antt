@@ -11,18 +11,18 @@ use Rattle.loes.specs.Bytes.{odd, front}
 use Rattle.loes.specs.Keys.{Key, KeySet}
 use Rattle.loes.specs.Limits.{maxEdges}
 use Rattle.loes.specs.Edges.{ones, onesBefore, edges, edgesBefore, edgeOffsets}
+use Rattle.loes.specs.Prefixes.{inhabited, prefixesBefore, ends, recordsBefore, recordIndex}
 use Rattle.loes.specs.Entry.{Entry, keysOf, count, edgesOf, edgeCount, Valid}
-use Rattle.loes.specs.Cursor.{pathOf}
+use Rattle.loes.specs.Cursor.{pathOf, keyOf, keyOfPath}
 use Rattle.loes.proofs.Bytes.{getD-tabulate}
 use Rattle.loes.proofs.Bits.{tabulate-ext}
-use Rattle.loes.proofs.Tree.{bit-le, inhabited, prefixesBefore, count-one}
-use Rattle.loes.proofs.Ends.{ends, ends-set}
-use Rattle.loes.proofs.Navigation.{recordsBefore, length-edgesBefore, recordIndex}
+use Rattle.loes.proofs.Tree.{bit-le, count-one}
+use Rattle.loes.proofs.Ends.{ends-set}
+use Rattle.loes.proofs.Navigation.{length-edgesBefore}
 use Rattle.loes.proofs.Members.{At, at-place}
 use Rattle.loes.proofs.Cursors.{length-offsets}
 use Rattle.bits.specs.Tables.{select}
 use Rattle.loes.proofs.Seven.{ones-le}
-use Rattle.query.specs.Paths.{keyOf, pathKey}
 use Rattle.query.proofs.BitLists.{up, ones-less, rank-is}
 use Rattle.query.proofs.Paths.{recordAt, Leading, offsets-are, ofKey, key-of, member-leads}
 use Rattle.query.specs.Select.{levelStart}
@@ -86,8 +86,8 @@ module _ (e : Entry) (v : Valid e) (i : ℕ) (lt : i < count e) where
   path-long os = omega (arith, path-size, length-append (pathOf e (getD (keysOf e) i [])) (drop (length (pathOf e (getD (keysOf e) i []))) os))
 
   -- and its key is the member
-  pub key-back : (os : List ℕ) → pathKey (front (pathOf e (getD (keysOf e) i [])) os) (e .width) ≡ getD (keysOf e) i []
-  unfolding pathKey keyOf front
+  pub key-back : (os : List ℕ) → keyOfPath (front (pathOf e (getD (keysOf e) i [])) os) (e .width) ≡ getD (keysOf e) i []
+  unfolding keyOfPath keyOf front
   key-back os =
       let x : List ℕ = pathOf e (getD (keysOf e) i []) in
       let k : Key = here .key in

@@ -9,9 +9,10 @@ use lib.Seq.{take-append-le, take-append-add}
 use Rattle.loes.specs.Bytes.{bit}
 use Rattle.loes.specs.Keys.{Key, KeySet, members, smaller}
 use Rattle.loes.specs.Edges.{Record, recordBits, ones, edges, edgesBefore}
+use Rattle.loes.specs.Prefixes.{half, inhabited, prefixCount, prefixesBefore, recordIndex}
 use Rattle.loes.proofs.Lists.{ones-append, bits-append, length-bits}
-use Rattle.loes.proofs.Tree.{half, inhabited, rootRecord, treeLevel, prefixCount, ones-tree, length-tree, hasPrefix, prefixesBefore, before-lt, bit-le, length-snoc, prefix-shorter, count-one, prefix-whole, prefix-inhabited, false-if, before-smaller, count-none}
-use Rattle.loes.proofs.Navigation.{length-edgesBefore, ones-edgesBefore, edges-at, recordIndex, nav-bit, edges-empty}
+use Rattle.loes.proofs.Tree.{hasPrefix, rootRecord, treeLevel, ones-tree, length-tree, before-lt, bit-le, length-snoc, prefix-shorter, count-one, prefix-whole, prefix-inhabited, false-if, before-smaller, count-none}
+use Rattle.loes.proofs.Navigation.{length-edgesBefore, ones-edgesBefore, edges-at, nav-bit, edges-empty}
 use Rattle.query.specs.Descent.{edgeFrom}
 
 pub before-le : (p : Key) (m : ℕ) (s : KeySet) → length p ≤ m → prefixesBefore p m s ≤ prefixCount (length p) m s

@@ -7,10 +7,11 @@ use native.Mathlib.Omega.{arith}
 use lib.ListN.{length, getD}
 use Rattle.loes.specs.Bytes.{Bytes, tabulate, bitAt, bitsIn}
 use Rattle.loes.specs.Keys.{smaller}
-use Rattle.loes.specs.Edges.{edges, onesBefore}
+use Rattle.loes.specs.Edges.{found, edges, onesBefore}
+use Rattle.loes.specs.Prefixes.{inhabited, recordIndex}
 use Rattle.loes.specs.Entry.{Entry, keysOf, edgesOf, edgeCount, Valid}
-use Rattle.loes.proofs.Tree.{inhabited, hasPrefix, prefix-whole}
-use Rattle.loes.proofs.Navigation.{recordIndex, record-nil}
+use Rattle.loes.proofs.Tree.{hasPrefix, prefix-whole, found-nil, found-prefix}
+use Rattle.loes.proofs.Navigation.{record-nil}
 use Rattle.loes.proofs.Bits.{length-bitsIn}
 use Rattle.query.specs.Descent.{edgeFrom, Way, Located}
 use Rattle.query.proofs.BitLists.{up, bits-suc}
@@ -25,13 +26,16 @@ module _ (e : Entry) (h : Valid e) (key : Bytes) where
     pl : length (bitsIn key d) < e .width
     pl = omega (arith, length-bitsIn key d)
 
+    on : f ≡ hasPrefix (bitsIn key d) (e .width) (e .set)
+    on = w .on ∙ found-prefix (bitsIn key d) (e .width) (e .set)
+
     pub way-le : (x : Bool) → edgeFrom r f x ≤ edgeCount e
     unfolding edgeCount edgesOf
-    way-le x = rw (w .at, w .on) (edge-le (bitsIn key d) x (e .width) (e .set) pl)
+    way-le x = rw (w .at, on) (edge-le (bitsIn key d) x (e .width) (e .set) pl)
 
     pub way-lt : (x : Bool) → f ≡ true → edgeFrom r f x < edgeCount e
     unfolding edgeCount edgesOf
-    way-lt x q = rw (w .at, w .on) (edge-lt (bitsIn key d) x (e .width) (e .set) pl (sym (w .on) ∙ q))
+    way-lt x q = rw (w .at, on) (edge-lt (bitsIn key d) x (e .width) (e .set) pl (sym on ∙ q))
 
     pub way-next : 0 < edgeCount e → (x : Bool) → x ≡ bitAt key d → (r' : ℕ) (f' : Bool)
         → r' ≡ onesBefore (edgesOf e) (edgeFrom r f x) + 1 → f' ≡ (f && getD (edgesOf e) (edgeFrom r f x) false) → Way e key (d + 1) r' f'
@@ -41,17 +45,17 @@ module _ (e : Entry) (h : Valid e) (key : Bytes) where
         record {
           at = er
               ∙ sym (up (onesBefore (edges (e .width) (e .set)) (edgeFrom r f x)))
-              ∙ ap₂ (λ y z. suc (onesBefore (edges (e .width) (e .set)) (edgeFrom y z x))) (w .at) (w .on)
+              ∙ ap₂ (λ y z. suc (onesBefore (edges (e .width) (e .set)) (edgeFrom y z x))) (w .at) on
               ∙ record-step (bitsIn key d) x (e .width) (e .set) pl (some-key q)
               ∙ ap (λ y. recordIndex y (e .width) (e .set)) (sym n);
           on = ef
-              ∙ ap₂ (λ y z. z && getD (edges (e .width) (e .set)) (edgeFrom y z x) false) (w .at) (w .on)
+              ∙ ap₂ (λ y z. z && getD (edges (e .width) (e .set)) (edgeFrom y z x) false) (w .at) on
               ∙ found-step (bitsIn key d) x (e .width) (e .set) pl
-              ∙ ap (λ y. hasPrefix y (e .width) (e .set)) (sym n);
+              ∙ sym (found-prefix (bitsIn key d ++ x ∷ []) (e .width) (e .set)) ∙ ap (found (e .width) (e .set)) (sym n);
         }
 
   pub way-first : 0 < edgeCount e → Way e key 0 0 true
-  way-first q = record { at = unfold bitsIn tabulate in sym (record-nil (e .width) (e .set)); on = unfold bitsIn tabulate hasPrefix in sym (some-key q) }
+  way-first q = record { at = unfold bitsIn tabulate in sym (record-nil (e .width) (e .set)); on = unfold bitsIn tabulate in sym (found-nil (e .width) (e .set) ∙ some-key q) }
 
   -- at the end
   pub way-located : (w b r : ℕ) (f : Bool) → w ≡ e .width → b ≡ edgeCount e → Way e key w r f → (b / 2 ≤ r) × Located e (bitsIn key w) (r - b / 2) f
@@ -59,7 +63,7 @@ module _ (e : Entry) (h : Valid e) (key : Bytes) where
   way-located w b r f ew eb v =
       let n = length-bitsIn key w ∙ ew in
       let q : r ≡ b / 2 + smaller (bitsIn key w) (keysOf e) = rw eb (v .at ∙ record-end (bitsIn key w) (e .width) (e .set) n) in
-      (omega (arith, q), record { below = omega (arith, q); inside = v .on ∙ prefix-whole (bitsIn key w) (e .width) (e .set) n })
+      (omega (arith, q), record { below = omega (arith, q); inside = v .on ∙ found-prefix (bitsIn key w) (e .width) (e .set) ∙ prefix-whole (bitsIn key w) (e .width) (e .set) n })
 
   -- with no edges there is no member
   pub none-located : (w : ℕ) → w ≡ e .width → edgeCount e ≡ 0 → Located e (bitsIn key w) 0 false

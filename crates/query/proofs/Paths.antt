@@ -10,11 +10,12 @@ use lib.Seq.{take-suc, length-take-le}
 use Rattle.loes.specs.Bytes.{bit, odd, tabulate}
 use Rattle.loes.specs.Keys.{Key, KeySet}
 use Rattle.loes.specs.Edges.{rank, edges, edgeOffsets}
+use Rattle.loes.specs.Prefixes.{inhabited, recordIndex}
+use Rattle.loes.specs.Cursor.{keyOf}
 use Rattle.loes.proofs.Bits.{bit-odd, odd-bit}
 use Rattle.loes.proofs.Bytes.{length-tabulate}
-use Rattle.loes.proofs.Tree.{inhabited, hasPrefix, bit-le, prefix-of}
-use Rattle.loes.proofs.Navigation.{recordIndex, nav-bit, nav-rank, edges-empty, record-nil}
-use Rattle.query.specs.Paths.{keyOf}
+use Rattle.loes.proofs.Tree.{hasPrefix, bit-le, prefix-of}
+use Rattle.loes.proofs.Navigation.{nav-bit, nav-rank, edges-empty, record-nil}
 
 -- the record that a path comes to on level d
 unfoldable pub recordAt : List Bool → (ℕ → ℕ) → ℕ → ℕ

@@ -8,13 +8,12 @@ use lib.ListN.{length, getD}
 use lib.Dec.{eqb}
 use Rattle.loes.specs.Bytes.{Bytes, started, bitsIn, packBits, front}
 use Rattle.loes.specs.Keys.{smaller}
-use Rattle.loes.specs.Cursor.{pathOf}
+use Rattle.loes.specs.Cursor.{pathOf, keyOfPath}
 use Rattle.loes.specs.Entry.{Entry, Valid, keyBytes, keysOf, count}
 use Rattle.loes.specs.Refusals.{badKey, outOfRange, shortBuffer, test, firstOf}
 use Rattle.loes.specs.Model.{Answer, refused, wroteKey, indexIs, isPresent, isAbsent, isNone, refusal, refusedOr, tested, answers, keyIn, unusedSet, keyTest, belowTest, writesKey, keyAt, contains, indexOf, lowerBound, saying}
 use Rattle.loes.proofs.Tests.{lt-yes, lt-no, neither, not-false, yes-eq}
 use Rattle.query.specs.Descent.{Located}
-use Rattle.query.specs.Paths.{pathKey}
 use Rattle.query.proofs.Ascent.{key-back}
 
 module _ (e : Entry) (x : Bytes) (w : ℕ) (bad : Bool) (same : w ≡ e .width) (b : bad ≡ (not (eqb (length x) (keyBytes w)) || unusedSet w x)) where
@@ -71,9 +70,9 @@ module _ (e : Entry) (i : ℕ) (out : Bytes) where
     key-short h = rw (lt-yes i (count e) lt, lt-yes (length out) (keyBytes (e .width)) h)
 
     pub key-written : Valid e → (m n : ℕ) (os os₀ : List ℕ) (out' : Bytes) → m ≡ e .width → os ≡ front (pathOf e (getD (keysOf e) i [])) os₀
-        → n ≡ keyBytes m → out' ≡ front (packBits (pathKey os m)) out → keyBytes m ≤ length out
+        → n ≡ keyBytes m → out' ≡ front (packBits (keyOfPath os m)) out → keyBytes m ≤ length out
         → record { answer = wroteKey n; buffers = out' ∷ [] } ≡ keyAt e i out .outcome
     unfolding keyAt writesKey tested refusedOr firstOf belowTest test
     key-written v m n os os₀ out' em eo en ew h =
-        let k : pathKey os m ≡ getD (keysOf e) i [] = rw (em, eo) (key-back e v i lt os₀) in
+        let k : keyOfPath os m ≡ getD (keysOf e) i [] = rw (em, eo) (key-back e v i lt os₀) in
         rw (ew, k, en, em, lt-yes i (count e) lt, lt-no (length out) (keyBytes (e .width)) (rw (← em) h))

@@ -9,17 +9,17 @@ use lib.ListN.{length, drop, getD, set, List·getD-eq-default}
 use lib.Seq.{drop-cons, set-append-seam}
 use Rattle.loes.specs.Bytes.{bit, odd, tabulate, bitsValue, byteOf, packBits, started, front}
 use Rattle.loes.specs.Keys.{Key}
+use Rattle.loes.specs.Cursor.{keyOf, keyOfPath}
 use Rattle.loes.proofs.Bits.{bitsValue-snoc, bit-odd, bitsValue-lt}
 use Rattle.loes.proofs.Bytes.{length-tabulate, getD-tabulate}
-use Rattle.query.specs.Paths.{keyOf, pathKey}
 use Rattle.query.proofs.Paths.{key-length}
 
-pub bit-in : (os : List ℕ) (m q : ℕ) → q < m → getD os q 0 % 2 ≡ bit (getD (pathKey os m) q false)
-unfolding pathKey keyOf
+pub bit-in : (os : List ℕ) (m q : ℕ) → q < m → getD os q 0 % 2 ≡ bit (getD (keyOfPath os m) q false)
+unfolding keyOfPath keyOf
 bit-in os m q h = sym (bit-odd (getD os q 0)) ∙ ap bit (sym (getD-tabulate (λ (i : ℕ). odd (getD os i 0)) m q false h))
 
-pub bit-out : (os : List ℕ) (m q : ℕ) → m ≤ q → _≡_ {A = ℕ} 0 (bit (getD (pathKey os m) q false))
-unfolding pathKey keyOf
+pub bit-out : (os : List ℕ) (m q : ℕ) → m ≤ q → _≡_ {A = ℕ} 0 (bit (getD (keyOfPath os m) q false))
+unfolding keyOfPath keyOf
 bit-out os m q h = ap bit (sym (List·getD-eq-default (tabulate (λ (i : ℕ). odd (getD os i 0)) m) false (omega (arith, length-tabulate (λ (i : ℕ). odd (getD os i 0)) m))))
 
 -- the first e bits of byte j
@@ -37,13 +37,13 @@ byte-more k j e v x h g =
     rw (z, h, g) (sym (bitsValue-snoc (tabulate (λ (x : ℕ). getD k (8 * j + x) false) e) (getD k (8 * j + e) false) 0))
 
 -- the bit of an offset
-pub byte-next : (os : List ℕ) (m j e v : ℕ) → 8 * j + e < m → v ≡ upTo (pathKey os m) j e → 2 * v + getD os (8 * j + e) 0 % 2 ≡ upTo (pathKey os m) j (e + 1)
-byte-next os m j e v l h = byte-more (pathKey os m) j e v (getD os (8 * j + e) 0 % 2) h (bit-in os m (8 * j + e) l)
+pub byte-next : (os : List ℕ) (m j e v : ℕ) → 8 * j + e < m → v ≡ upTo (keyOfPath os m) j e → 2 * v + getD os (8 * j + e) 0 % 2 ≡ upTo (keyOfPath os m) j (e + 1)
+byte-next os m j e v l h = byte-more (keyOfPath os m) j e v (getD os (8 * j + e) 0 % 2) h (bit-in os m (8 * j + e) l)
 
-pub byte-first : (os : List ℕ) (m j : ℕ) → 8 * j < m → getD os (8 * j) 0 % 2 ≡ upTo (pathKey os m) j 1
+pub byte-first : (os : List ℕ) (m j : ℕ) → 8 * j < m → getD os (8 * j) 0 % 2 ≡ upTo (keyOfPath os m) j 1
 byte-first os m j l =
     let z : 8 * j + 0 ≡ 8 * j = omega arith in
-    let h : 2 * 0 + getD os (8 * j + 0) 0 % 2 ≡ upTo (pathKey os m) j 1 = byte-next os m j 0 0 (omega arith) (byte-none (pathKey os m) j) in
+    let h : 2 * 0 + getD os (8 * j + 0) 0 % 2 ≡ upTo (keyOfPath os m) j 1 = byte-next os m j 0 0 (omega arith) (byte-none (keyOfPath os m) j) in
     let q : getD os (8 * j + 0) 0 ≡ getD os (8 * j) 0 = ap (λ i. getD os i 0) z in
     omega (arith, h, q)
 
@@ -78,8 +78,8 @@ pub none-written : (f : ℕ → ℕ) (l : List ℕ) → l ≡ tabulate f 0 ++ dr
 unfolding tabulate
 none-written f l = refl
 
-pub all-written : (os : List ℕ) (m : ℕ) (l out : List ℕ) (j : ℕ) → out ≡ tabulate (byteOf (pathKey os m)) j ++ drop j l → j ≡ (m + 7) / 8 → out ≡ front (packBits (pathKey os m)) l
-unfolding front packBits started pathKey
+pub all-written : (os : List ℕ) (m : ℕ) (l out : List ℕ) (j : ℕ) → out ≡ tabulate (byteOf (keyOfPath os m)) j ++ drop j l → j ≡ started 8 m → out ≡ front (packBits (keyOfPath os m)) l
+unfolding front packBits started keyOfPath
 all-written os m l out j e z =
     let n : length (keyOf (λ (i : ℕ). getD os i 0) m) ≡ m = key-length (λ (i : ℕ). getD os i 0) m in
     let y : (length (keyOf (λ (i : ℕ). getD os i 0) m) + 7) / 8 ≡ j = rw n (sym z) in

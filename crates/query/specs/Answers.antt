@@ -1,15 +1,14 @@
 -- What each answer says in the specification's words, with the lent buffers.
-use mathlib.Core.List.{[], _∷_}
 use Rattle.loes.specs.Bytes.{Bytes}
-use Rattle.loes.specs.Model.{Answer, Outcome, refused, wroteKey, isPresent, isAbsent, isNone, indexIs, saying}
+use Rattle.loes.specs.Model.{Answer, Outcome, refused, wroteKey, isPresent, isAbsent, isNone, indexIs, saying, writing}
 use Rattle.query.specs.declared.Membership.{Membership}
 use Rattle.query.specs.declared.Membership.the-variants as membership
 use Rattle.query.specs.declared.Lookup.{Lookup}
 use Rattle.query.specs.declared.Lookup.the-variants as lookup
 use Rattle.query.specs.declared.Bound.{Bound}
 use Rattle.query.specs.declared.Bound.the-variants as bound
-use Rattle.query.specs.declared.Written.{Written}
-use Rattle.query.specs.declared.Written.the-variants as written
+use Rattle.query.specs.declared.WrittenKey.{WrittenKey}
+use Rattle.query.specs.declared.WrittenKey.the-variants as written
 
 abbrev pub membershipOutcome : Membership → Outcome
 membershipOutcome (membership.Refused k) = saying (refused k)
@@ -26,9 +25,9 @@ boundOutcome (bound.Refused k) = saying (refused k)
 boundOutcome (bound.Index i) = saying (indexIs (i .0))
 boundOutcome bound.End = saying isNone
 
-abbrev pub writtenAnswer : Written → Answer
-writtenAnswer (written.Refused k) = refused k
-writtenAnswer (written.Bytes n) = wroteKey n
+abbrev pub keyAnswer : WrittenKey → Answer
+keyAnswer (written.Refused k) = refused k
+keyAnswer (written.Bytes n) = wroteKey n
 
-abbrev pub writtenOutcome : Written → Bytes → Outcome
-writtenOutcome r out = record { answer = writtenAnswer r; buffers = out ∷ [] }
+abbrev pub keyOutcome : WrittenKey → Bytes → Outcome
+keyOutcome r out = writing (keyAnswer r) out

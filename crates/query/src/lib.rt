@@ -9,17 +9,16 @@ ghost use Rattle.loes.specs.Limits.{maxWidth, maxEdges, maxBytes, blockBits, su
 ghost use Rattle.loes.specs.Bytes.{bit, bitsIn, byteOf, packBits, front};
 ghost use Rattle.loes.specs.Edges.{ones, onesBefore};
 ghost use Rattle.loes.specs.Entry.{keyBytes, keysOf, count, edgesOf};
-ghost use Rattle.loes.specs.Encode.{blockOnes, subBlockOnes};
+ghost use Rattle.loes.specs.Encode.{subBlockOnes};
 ghost use Rattle.loes.specs.Read.{entryIn};
 ghost use Rattle.loes.specs.Model.{unusedSet, contains, indexOf, lowerBound, keyAt};
 ghost use Rattle.loes.specs.Calls.{containsCall, indexOfCall, keyAtCall, lowerBoundCall};
-ghost use Rattle.loes.specs.Cursor.{pathOf};
+ghost use Rattle.loes.specs.Cursor.{pathOf, keyOfPath};
 ghost use Rattle.bits.specs.Tables.{select, bits8, Tallies, Places};
 ghost use Rattle.encoding.specs.Opened.{Opens};
-ghost use Rattle.query.specs.Descent.{edgeFrom, Way, Located};
-ghost use Rattle.query.specs.Paths.{pathKey};
-ghost use Rattle.query.specs.Select.{numbered, InByte, LastBy, levelStart};
-ghost use Rattle.query.specs.Answers.{membershipOutcome, lookupOutcome, boundOutcome, writtenOutcome};
+ghost use Rattle.query.specs.Descent.{edgeFrom, DownTo, Way, Located};
+ghost use Rattle.query.specs.Select.{numbered, InByte, LastBlock, LastBy, levelStart};
+ghost use Rattle.query.specs.Answers.{membershipOutcome, lookupOutcome, boundOutcome, keyOutcome};
 use bits::EdgeOffset;
 use bits::MemberIndex;
 use bits::RecordIndex;
@@ -48,7 +47,7 @@ pub enum Bound {
     End,
 }
 
-pub enum Written {
+pub enum WrittenKey {
     Refused(u8),
     Bytes(usize),
 }
@@ -86,7 +85,7 @@ fn edge_set(l: &[u8], e: Encoding, found: bool, o: EdgeOffset) -> bool
 // One level down: one rank.
 fn step_down(l: &[u8], t: &[u8], e: Encoding, at: Spot, bit: bool) -> Spot
     requires { ⌜ Opens (now l) e × Tallies (now t) × (edgeFrom (at .record .0) (at .found) bit ≤ e .bits) × (at .found ≡ true → edgeFrom (at .record .0) (at .found) bit < e .bits) ⌝ }
-    ensures { λ r. ⌜ (r .record .0 ≡ onesBefore (edgesOf (entryIn (now (l .entry)))) (edgeFrom (at .record .0) (at .found) bit) + 1) × (r .found ≡ (at .found && getD (edgesOf (entryIn (now (l .entry)))) (edgeFrom (at .record .0) (at .found) bit) false)) ⌝ }
+    ensures { λ r. ⌜ DownTo (edgesOf (entryIn (now (l .entry)))) at bit r ⌝ }
 {
     let on = at.found;
     let o = edge_from(at, bit);
@@ -147,7 +146,7 @@ fn bad_key(e: Encoding, key: &[u8]) -> bool
     requires { ⌜ (0 < e .width) × (e .width ≤ maxWidth) ⌝ }
     ensures { λ r. ⌜ r ≡ (not (eqb (length (now (key .entry))) (keyBytes (e .width))) || unusedSet (e .width) (now (key .entry))) ⌝ }
 {
-    let t = (e.width + 7) / 8;
+    let t = bits::bytes_for(e.width);
     if key.len() != t {
         return true;
     }
@@ -155,11 +154,6 @@ fn bad_key(e: Encoding, key: &[u8]) -> bool
 }
 
 // ---- Select
-// Sub-blocks of a block, and edge bytes of a sub-block.
-const SUB_BLOCKS: usize = Encoding::BLOCK_BITS / Encoding::SUB_BLOCK_BITS;
-
-const SUB_BLOCK_BYTES: usize = Encoding::SUB_BLOCK_BITS / 8;
-
 // The set bits of a byte.
 fn ones_in(t: &[u8], x: u8) -> usize
     requires { ⌜ Tallies (now t) ⌝ }
@@ -209,12 +203,12 @@ fn find_from(edges: &[u8], t: &[u8], from: usize, left: usize) -> BitInByte
 // The last block with at most k set bits before it.
 fn block_of(l: &[u8], e: Encoding, k: usize) -> usize
     requires { ⌜ Opens (now l) e × (0 < e .bits) ⌝ }
-    ensures { λ r. ⌜ (blockBits * r < e .bits) × (blockOnes (edgesOf (entryIn (now (l .entry)))) r ≤ k) × (blockBits * (r + 1) < e .bits → k < blockOnes (edgesOf (entryIn (now (l .entry)))) (r + 1)) ⌝ }
+    ensures { λ r. ⌜ LastBlock (edgesOf (entryIn (now (l .entry)))) (e .bits) k r ⌝ }
 {
     let b = e.bits;
     let mut j: usize = 0;
     while Encoding::BLOCK_BITS * (j + 1) < b {
-        let n = bits::number8(l, e.blocks + 8 * (j + 1));
+        let n = bits::number8(l, e.blocks + Encoding::BLOCK_ENTRY * (j + 1));
         if k < n {
             return j;
         }
@@ -229,7 +223,7 @@ fn begins_by(l: &[u8], e: Encoding, j: usize, k: usize) -> bool
     ensures { λ r. ⌜ r ≡ (ltb (subBlockBits * j) (e .bits) && leb (subBlockOnes (edgesOf (entryIn (now (l .entry)))) j) k) ⌝ }
 {
     if Encoding::SUB_BLOCK_BITS * j < e.bits {
-        let n = bits::number2(l, e.sub_blocks + 2 * j);
+        let n = bits::number2(l, e.sub_blocks + Encoding::SUB_BLOCK_ENTRY * j);
         return n <= k;
     }
     false
@@ -240,8 +234,8 @@ fn sub_block_of(l: &[u8], e: Encoding, block: usize, k: usize) -> usize
     requires { ⌜ Opens (now l) e × (blockBits * block < e .bits) ⌝ }
     ensures { λ r. ⌜ LastBy (edgesOf (entryIn (now (l .entry)))) (e .bits) block k r ⌝ }
 {
-    let mut low = SUB_BLOCKS * block;
-    let mut high = low + SUB_BLOCKS;
+    let mut low = Encoding::SUB_BLOCKS * block;
+    let mut high = low + Encoding::SUB_BLOCKS;
     while low + 1 < high {
         let mid = (low + high) / 2;
         if begins_by(l, e, mid, k) {
@@ -258,7 +252,7 @@ fn sub_block_near(l: &[u8], e: Encoding, block: usize, k: usize, hint: usize) ->
     requires { ⌜ Opens (now l) e × (blockBits * block < e .bits) ⌝ }
     ensures { λ r. ⌜ LastBy (edgesOf (entryIn (now (l .entry)))) (e .bits) block k r ⌝ }
 {
-    if hint / SUB_BLOCKS != block {
+    if hint / Encoding::SUB_BLOCKS != block {
         return sub_block_of(l, e, block, k);
     }
     if begins_by(l, e, hint, k) {
@@ -267,7 +261,7 @@ fn sub_block_near(l: &[u8], e: Encoding, block: usize, k: usize, hint: usize) ->
         }
         return hint;
     }
-    if hint % SUB_BLOCKS == 0 {
+    if hint % Encoding::SUB_BLOCKS == 0 {
         return sub_block_of(l, e, block, k);
     }
     if begins_by(l, e, hint - 1, k) {
@@ -283,11 +277,11 @@ fn find_by_index(l: &[u8], t: &[u8], e: Encoding, r: RecordIndex, hint: usize) -
 {
     let k = r.0 - 1;
     let block = block_of(l, e, k);
-    let in_block = k - bits::number8(l, e.blocks + 8 * block);
+    let in_block = k - bits::number8(l, e.blocks + Encoding::BLOCK_ENTRY * block);
     let sub = sub_block_near(l, e, block, in_block, hint);
-    let left = in_block - bits::number2(l, e.sub_blocks + 2 * sub);
+    let left = in_block - bits::number2(l, e.sub_blocks + Encoding::SUB_BLOCK_ENTRY * sub);
     let start = e.edges;
-    find_from(&l[start..], t, SUB_BLOCK_BYTES * sub, left)
+    find_from(&l[start..], t, Encoding::SUB_BLOCK_BYTES * sub, left)
 }
 
 // The set bit that has k set bits before it from an offset on.
@@ -303,7 +297,7 @@ fn find_behind(l: &[u8], t: &[u8], e: Encoding, from: EdgeOffset, k: usize) -> B
 }
 
 // So few set bits are counted from the level's start.
-const FEW: usize = 128;
+const FEW_RECORDS: usize = 128;
 
 // The edge that leads to a record, which is number k of its level; the edge's level begins at an offset.
 fn find_edge(
@@ -318,7 +312,7 @@ fn find_edge(
     requires { ⌜ Opens (now l) e × Tallies (now t) × (0 < r .0) × (r .0 - 1 < ones (edgesOf (entryIn (now l)))) × (onesBefore (edgesOf (entryIn (now l))) (from .0) + k ≡ r .0 - 1) ⌝ }
     ensures { λ x. ⌜ InByte (drop (e .edges) (now (l .entry))) (r .0 - 1) (x .byte) (x .number) ⌝ }
 {
-    if k < FEW {
+    if k < FEW_RECORDS {
         return find_behind(l, t, e, from, k);
     }
     find_by_index(l, t, e, r, hint)
@@ -406,7 +400,7 @@ fn path_at(l: &[u8], t: &[u8], places: &[u32], e: Encoding, i: MemberIndex, offs
 // Bit q of the key of a path; none behind its last.
 fn key_bit(offsets: &[usize], m: usize, q: usize) -> usize
     requires { ⌜ m ≤ length (now offsets) ⌝ }
-    ensures { λ r. ⌜ r ≡ bit (getD (pathKey (now (offsets .entry)) m) q false) ⌝ }
+    ensures { λ r. ⌜ r ≡ bit (getD (keyOfPath (now (offsets .entry)) m) q false) ⌝ }
 {
     if q < m {
         return offsets[q] % 2;
@@ -417,7 +411,7 @@ fn key_bit(offsets: &[usize], m: usize, q: usize) -> usize
 // Byte j of the key of a path, bit by bit; a key has fewer bytes than it may have bits.
 fn part_byte(offsets: &[usize], m: usize, j: usize) -> u8
     requires { ⌜ (m ≤ length (now offsets)) × (j < maxWidth) ⌝ }
-    ensures { λ r. ⌜ r ≡ byteOf (pathKey (now (offsets .entry)) m) j ⌝ }
+    ensures { λ r. ⌜ r ≡ byteOf (keyOfPath (now (offsets .entry)) m) j ⌝ }
 {
     let mut v: usize = 0;
     let mut e: usize = 0;
@@ -432,7 +426,7 @@ fn part_byte(offsets: &[usize], m: usize, j: usize) -> u8
 // The same for a byte whose bits are all of the key.
 fn whole_byte(offsets: &[usize], m: usize, j: usize) -> u8
     requires { ⌜ (m ≤ length (now offsets)) × (8 * j + 8 ≤ m) × (j < maxWidth) ⌝ }
-    ensures { λ r. ⌜ r ≡ byteOf (pathKey (now (offsets .entry)) m) j ⌝ }
+    ensures { λ r. ⌜ r ≡ byteOf (keyOfPath (now (offsets .entry)) m) j ⌝ }
 {
     let at = 8 * j;
     let a = offsets[at] % 2;
@@ -449,7 +443,7 @@ fn whole_byte(offsets: &[usize], m: usize, j: usize) -> u8
 // Byte j of the key of a path.
 fn key_byte(offsets: &[usize], m: usize, j: usize) -> u8
     requires { ⌜ (m ≤ length (now offsets)) × (j < maxWidth) ⌝ }
-    ensures { λ r. ⌜ r ≡ byteOf (pathKey (now (offsets .entry)) m) j ⌝ }
+    ensures { λ r. ⌜ r ≡ byteOf (keyOfPath (now (offsets .entry)) m) j ⌝ }
 {
     if 8 * j + 8 <= m {
         return whole_byte(offsets, m, j);
@@ -460,9 +454,9 @@ fn key_byte(offsets: &[usize], m: usize, j: usize) -> u8
 // Writes the key of a path to the front of a buffer.
 pub fn write_key(offsets: &[usize], m: usize, out: &mut [u8]) -> usize
     requires { ⌜ (m ≤ maxWidth) × (m ≤ length (now offsets)) × (keyBytes m ≤ length (now out)) ⌝ }
-    ensures { λ r. ⌜ (r ≡ keyBytes m) × (now (out .exit) ≡ front (packBits (pathKey (now (offsets .entry)) m)) (now (out .entry))) ⌝ }
+    ensures { λ r. ⌜ (r ≡ keyBytes m) × (now (out .exit) ≡ front (packBits (keyOfPath (now (offsets .entry)) m)) (now (out .entry))) ⌝ }
 {
-    let t = (m + 7) / 8;
+    let t = bits::bytes_for(m);
     let mut j: usize = 0;
     while j < t {
         out[j] = key_byte(offsets, m, j);
@@ -534,21 +528,21 @@ pub fn key_at_in(
     e: Encoding,
     i: MemberIndex,
     out: &mut [u8],
-) -> Written
+) -> WrittenKey
     requires { ⌜ Opens (now l) e × Tallies (now t) × Places (now places) ⌝ }
-    ensures { λ r. ⌜ writtenOutcome r (now (out .exit)) ≡ keyAt (entryIn (now (l .entry))) (i .0) (now (out .entry)) .outcome ⌝ }
+    ensures { λ r. ⌜ keyOutcome r (now (out .exit)) ≡ keyAt (entryIn (now (l .entry))) (i .0) (now (out .entry)) .outcome ⌝ }
 {
     if e.count <= i.0 {
-        return Written::Refused(OUT_OF_RANGE);
+        return WrittenKey::Refused(OUT_OF_RANGE);
     }
     let m = e.width;
-    if out.len() < (m + 7) / 8 {
-        return Written::Refused(SHORT_BUFFER);
+    if out.len() < bits::bytes_for(m) {
+        return WrittenKey::Refused(SHORT_BUFFER);
     }
     let mut offsets = room();
     path_at(l, t, places, e, i, &mut offsets);
     let n = write_key(&offsets, m, out);
-    Written::Bytes(n)
+    WrittenKey::Bytes(n)
 }
 
 // ---- Calls: the check, then the question
@@ -589,13 +583,13 @@ pub fn lower_bound(l: &[u8], key: &[u8]) -> Bound
 }
 
 // Writes the member at an index to the front of a buffer (document 01: ticket of a lot).
-pub fn key_at(l: &[u8], i: MemberIndex, out: &mut [u8]) -> Written
-    ensures { λ r. ⌜ writtenOutcome r (now (out .exit)) ≡ keyAtCall (now (l .entry)) (i .0) (now (out .entry)) ⌝ }
+pub fn key_at(l: &[u8], i: MemberIndex, out: &mut [u8]) -> WrittenKey
+    ensures { λ r. ⌜ keyOutcome r (now (out .exit)) ≡ keyAtCall (now (l .entry)) (i .0) (now (out .entry)) ⌝ }
 {
     let t = bits::tallies();
     let checked = encoding::check(l, &t);
     match checked {
-        Checked::Refused(k) => Written::Refused(k),
+        Checked::Refused(k) => WrittenKey::Refused(k),
         Checked::Opened(e) => {
             let places = bits::places();
             key_at_in(l, &t, &places, e, i, out)

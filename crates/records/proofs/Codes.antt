@@ -10,7 +10,7 @@ use lib.Seq.{getD-set-same, getD-set-other}
 use lib.Dec.{eqb}
 use lib.Bits.{bitAnd, bitOr}
 use Rattle.loes.specs.Bytes.{Bytes, bit, odd, bitAt, bitsIn, tabulate}
-use Rattle.loes.specs.Keys.{filter}
+use Rattle.loes.specs.Keys.{those}
 use Rattle.loes.specs.Edges.{Record, recordBits}
 use Rattle.loes.proofs.Lists.{bits-append}
 use Rattle.loes.proofs.Bytes.{length-tabulate}
@@ -130,7 +130,7 @@ pub put-more : (o u : Bytes) (i z : ℕ) → Put i z o u → recordsTo u (suc i)
 put-more o u i z p = records-more u i ∙ rw (p .here, records-same u o i (λ j l. p .other j (λ f. omega arith)))
 
 pub push-ok : (o p : Bytes) (n z end : ℕ) (b : Bool) → Put n z o p → hasEdge (recordOfCode z) ≡ b → end ≡ n + bit b → Pushed n z o p end
-unfolding filter
+unfolding those
 push-ok o p n z end true w e c =
     let y : end ≡ suc n = omega arith in
     record { records = rw (y, e) (put-more o p n z w); count = rw e c; size = w .size }

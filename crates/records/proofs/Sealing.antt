@@ -11,7 +11,7 @@ use Rattle.loes.specs.Bytes.{Bytes, odd, bitAt, bitsIn, started, packBits}
 use Rattle.loes.specs.Edges.{recordBits}
 use Rattle.loes.proofs.Bytes.{length-packed}
 use Rattle.loes.proofs.Bits.{packed-bits, bits-packed, length-bitsIn, bit-taken, bits-taken}
-use Rattle.records.specs.Records.{emptyRecord, recordOfCode, recordAt, Put, Sealed, Written}
+use Rattle.records.specs.Records.{emptyRecord, recordOfCode, recordAt, Put, Sealed, Packed}
 use Rattle.records.proofs.Codes.{bits-recordsTo, records-same}
 
 -- cleared from k to i
@@ -79,10 +79,10 @@ sealed {o} {p} {k} {i} h z c small =
       size = c .size;
     }
 
-pub written : {e : List Bool} {k : ℕ} {o x p : Bytes} → bitsIn x (2 * k) ≡ e → length x ≡ length o → Sealed k x p → Written e o p (2 * k)
+pub written : {e : List Bool} {k : ℕ} {o x p : Bytes} → bitsIn x (2 * k) ≡ e → length x ≡ length o → Sealed k x p → Packed e o p (2 * k)
 written {k} {x} f n g = record { count = sym (length-bitsIn x (2 * k)) ∙ ap length f; bytes = g .bytes ∙ ap packBits f; size = g .size ∙ n }
 
-pub written-bits : {e : List Bool} {o p : Bytes} {b : ℕ} → Written e o p b → bitsIn p b ≡ e
+pub written-bits : {e : List Bool} {o p : Bytes} {b : ℕ} → Packed e o p b → bitsIn p b ≡ e
 written-bits {e} {p} {b} w =
     let f : bitsIn (take (started 8 b) p) b ≡ e = rw (w .bytes, w .count) (bits-packed e) in
     sym (bits-taken p (started 8 b) b (unfold started in omega arith)) ∙ f
@@ -91,5 +91,5 @@ room-of : (l : Bytes) (b : ℕ) → length (take (started 8 b) l) ≡ started 8 
 unfolding started
 room-of l b f = omega (arith, f, length-take ((b + 7) / 8) l)
 
-pub written-room : {e : List Bool} {o p : Bytes} {b : ℕ} → Written e o p b → b ≤ 8 * length p
+pub written-room : {e : List Bool} {o p : Bytes} {b : ℕ} → Packed e o p b → b ≤ 8 * length p
 written-room {e} {p} {b} w = room-of p b (ap length (w .bytes) ∙ length-packed e ∙ rw (w .count))

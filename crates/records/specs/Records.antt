@@ -6,7 +6,7 @@ use mathlib.Core.List.{List, [], _∷_, _++_}
 use lib.ListN.{length, take, drop}
 use lib.Dec.{eqb}
 use Rattle.loes.specs.Bytes.{Bytes, bit, odd, bitAt, bitsIn, tabulate, started, packBits}
-use Rattle.loes.specs.Keys.{filter}
+use Rattle.loes.specs.Keys.{those}
 use Rattle.loes.specs.Edges.{Record}
 
 -- ---- Records
@@ -105,7 +105,7 @@ pub record Put (i z : ℕ) (o p : Bytes) : Type 0 where
 
 -- record z is put behind the first n, if it has an edge; then there are end
 pub record Pushed (n z : ℕ) (o p : Bytes) (end : ℕ) : Type 0 where
-  pub records : recordsTo p end ≡ recordsTo o n ++ filter hasEdge (recordOfCode z ∷ [])
+  pub records : recordsTo p end ≡ recordsTo o n ++ those hasEdge (recordOfCode z ∷ [])
   pub count : end ≡ n + bit (hasEdge (recordOfCode z))
   pub size : length p ≡ length o
 
@@ -115,7 +115,7 @@ pub record Sealed (k : ℕ) (o p : Bytes) : Type 0 where
   pub size : length p ≡ length o
 
 -- the first b bits are these, and what is left of their last byte is clear: of an entry's edges, the body of field 4
-pub record Written (e : List Bool) (o p : Bytes) (b : ℕ) : Type 0 where
+pub record Packed (e : List Bool) (o p : Bytes) (b : ℕ) : Type 0 where
   pub count : b ≡ length e
   pub bytes : take (started 8 b) p ≡ packBits e
   pub size : length p ≡ length o

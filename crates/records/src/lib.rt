@@ -77,15 +77,18 @@ pub fn wide(x: u8) -> usize
     x as usize
 }
 
+// What a byte weighs that has three behind it.
+const THREE_BYTES: usize = bits::TWO_BYTES * bits::BYTE;
+
 // Eight records from record i on, in the upper bits of a word.
 pub fn window(l: &[u8], i: RecordIndex) -> usize
     requires { ⌜ i .0 / 4 + 3 < length (now l) ⌝ }
     ensures { λ r. ⌜ eightOf r ≡ recordsAt (now (l .entry)) (i .0) 8 ⌝ }
 {
     let at = i.0 / 4;
-    let x = wide(l[at]) * 16777216
-        + wide(l[at + 1]) * 65536
-        + wide(l[at + 2]) * 256
+    let x = wide(l[at]) * THREE_BYTES
+        + wide(l[at + 1]) * bits::TWO_BYTES
+        + wide(l[at + 2]) * bits::BYTE
         + wide(l[at + 3]);
     x << (32 + 2 * (i.0 % 4))
 }

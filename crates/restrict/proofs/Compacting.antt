@@ -7,9 +7,9 @@ use native.Mathlib.Omega.{arith}
 use native.Mathlib.Decide.{le-ind}
 use lib.ListN.{length, getD, length-append}
 use Rattle.loes.specs.Bytes.{Bytes, tabulate}
-use Rattle.loes.specs.Keys.{filter}
+use Rattle.loes.specs.Keys.{those}
 use Rattle.loes.specs.Edges.{Record}
-use Rattle.loes.proofs.Lists.{filter-append, length-filter}
+use Rattle.loes.proofs.Lists.{those-append, length-those}
 use Rattle.records.specs.Records.{hasEdge, recordOfCode, recordAt, recordsTo, recordsAt, Flag, flagIf, recordOfFlag, Pushed}
 use Rattle.records.specs.Numbers.{recordsOf, bitsOf}
 use Rattle.records.specs.Tables.{eitherFlags}
@@ -19,53 +19,53 @@ use Rattle.records.proofs.Numbers.{records-add, byte-run, bytes-more}
 
 -- ---- None, one record more, and sixteen more
 pub compact-none : {q o : Bytes} → Compacted q 0 o o 0
-unfolding recordsTo tabulate filter
+unfolding recordsTo tabulate those
 compact-none = record { out = refl; size = refl }
 
-filter-more : (q : Bytes) (i : ℕ) → filter hasEdge (recordsTo q (suc i)) ≡ filter hasEdge (recordsTo q i) ++ filter hasEdge (recordAt q i ∷ [])
-filter-more q i = rw (records-more q i) (filter-append hasEdge (recordsTo q i) (recordAt q i ∷ []))
+those-more : (q : Bytes) (i : ℕ) → those hasEdge (recordsTo q (suc i)) ≡ those hasEdge (recordsTo q i) ++ those hasEdge (recordAt q i ∷ [])
+those-more q i = rw (records-more q i) (those-append hasEdge (recordsTo q i) (recordAt q i ∷ []))
 
 pub compact-more : {q o p u : Bytes} {i k x l : ℕ} → Compacted q i o p k → recordOfCode x ≡ recordAt q i → Pushed k x p u l → Compacted q (i + 1) o u l
 compact-more {q} {i} v e w =
     let z : i + 1 ≡ suc i = omega arith in
-    record { out = rw z (w .records ∙ rw (v .out, e) (sym (filter-more q i))); size = w .size ∙ v .size }
+    record { out = rw z (w .records ∙ rw (v .out, e) (sym (those-more q i))); size = w .size ∙ v .size }
 
 pub compact-block : {q o p u : Bytes} {i k l : ℕ} → Compacted q i o p k → i % 4 ≡ 0 → BlockCompacted q (i / 4) p k u l → Compacted q (i + 16) o u l
 compact-block {q} {i} v h w =
     let z : 4 * (i / 4) ≡ i = omega arith in
     let e : recordsTo q (i + 16) ≡ recordsTo q i ++ recordsAt q (4 * (i / 4)) 16 = records-add q i 16 ∙ ap (λ n. recordsTo q i ++ recordsAt q n 16) (sym z) in
     record {
-      out = w .records ∙ rw (v .out) (sym (ap (filter hasEdge) e ∙ filter-append hasEdge (recordsTo q i) (recordsAt q (4 * (i / 4)) 16)));
+      out = w .records ∙ rw (v .out) (sym (ap (those hasEdge) e ∙ those-append hasEdge (recordsTo q i) (recordsAt q (4 * (i / 4)) 16)));
       size = w .size ∙ v .size;
     }
 
 -- ---- How many there are
-pub compact-count : {q o p : Bytes} {i k : ℕ} → Compacted q i o p k → k ≡ length (filter hasEdge (recordsTo q i))
+pub compact-count : {q o p : Bytes} {i k : ℕ} → Compacted q i o p k → k ≡ length (those hasEdge (recordsTo q i))
 compact-count {p} {k} v = sym (length-records p k) ∙ ap length (v .out)
 
 pub compact-less : {q o p : Bytes} {i k : ℕ} → Compacted q i o p k → k ≤ i
-compact-less {q} {i} v = omega (arith, compact-count v, length-filter hasEdge (recordsTo q i), length-records q i)
+compact-less {q} {i} v = omega (arith, compact-count v, length-those hasEdge (recordsTo q i), length-records q i)
 
-pub filter-mono : (q : Bytes) (i r : ℕ) → i ≤ r → length (filter hasEdge (recordsTo q i)) ≤ length (filter hasEdge (recordsTo q r))
-filter-mono q i r h =
-    le-ind (λ (j : ℕ). length (filter hasEdge (recordsTo q i)) ≤ length (filter hasEdge (recordsTo q j))) (omega arith)
-    (λ j l e. rw (filter-more q j, length-append (filter hasEdge (recordsTo q j)) (filter hasEdge (recordAt q j ∷ []))) (omega arith)) r h
+pub those-mono : (q : Bytes) (i r : ℕ) → i ≤ r → length (those hasEdge (recordsTo q i)) ≤ length (those hasEdge (recordsTo q r))
+those-mono q i r h =
+    le-ind (λ (j : ℕ). length (those hasEdge (recordsTo q i)) ≤ length (those hasEdge (recordsTo q j))) (omega arith)
+    (λ j l e. rw (those-more q j, length-append (those hasEdge (recordsTo q j)) (those hasEdge (recordAt q j ∷ []))) (omega arith)) r h
 
 -- ---- The records of bytes that have an edge, as a run
-flag-edge : (a b : Bool) (l : List Flag) (m : List Record) → map recordOfFlag l ≡ filter hasEdge m → map recordOfFlag (flagIf a b ++ l) ≡ filter hasEdge (record { onZero = b; onOne = a } ∷ m)
-unfolding flagIf recordOfFlag filter hasEdge
+flag-edge : (a b : Bool) (l : List Flag) (m : List Record) → map recordOfFlag l ≡ those hasEdge m → map recordOfFlag (flagIf a b ++ l) ≡ those hasEdge (record { onZero = b; onOne = a } ∷ m)
+unfolding flagIf recordOfFlag those hasEdge
 flag-edge true true l m e = rw e
 flag-edge true false l m e = rw e
 flag-edge false true l m e = rw e
 flag-edge false false l m e = e
 
-flagged-edges : (l : List Record) → map recordOfFlag (eitherFlags (map (λ (z : Record). z .onOne) l) (map (λ (z : Record). z .onZero) l)) ≡ filter hasEdge l
+flagged-edges : (l : List Record) → map recordOfFlag (eitherFlags (map (λ (z : Record). z .onOne) l) (map (λ (z : Record). z .onZero) l)) ≡ those hasEdge l
 unfolding eitherFlags
-flagged-edges [] = unfold filter in refl
+flagged-edges [] = unfold those in refl
 flagged-edges (r ∷ l) = flag-edge (r .onOne) (r .onZero) (eitherFlags (map (λ (z : Record). z .onOne) l) (map (λ (z : Record). z .onZero) l)) l (flagged-edges l)
 
 pub byte-edges : (x f s : ℕ) → bitsOf 4 f ≡ map (λ (z : Record). z .onOne) (recordsOf 4 x) → bitsOf 4 s ≡ map (λ (z : Record). z .onZero) (recordsOf 4 x)
-    → map recordOfFlag (eitherFlags (bitsOf 4 f) (bitsOf 4 s)) ≡ filter hasEdge (recordsOf 4 x)
+    → map recordOfFlag (eitherFlags (bitsOf 4 f) (bitsOf 4 s)) ≡ those hasEdge (recordsOf 4 x)
 byte-edges x f s ef es = rw (ef, es) (flagged-edges (recordsOf 4 x))
 
 -- the records of four bytes, two and two

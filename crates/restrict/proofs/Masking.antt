@@ -158,7 +158,7 @@ kept-test w p r d t k h et s m l =
 
 -- ---- A byte marked is four records marked, from the last to the first
 -- record i of P marked, which gives O; the entries from b on are those of p
-record Step (w : ℕ) (q : Bytes) (r n : ℕ) (p : Bytes) (b i d : ℕ) (P O : Bytes) (s : Record) : Type 0 where
+record MarkStep (w : ℕ) (q : Bytes) (r n : ℕ) (p : Bytes) (b i d : ℕ) (P O : Bytes) (s : Record) : Type 0 where
   marking : Marking w q r n i d O
   kept : (m : ℕ) → b ≤ m → keptAt w O r m ≡ keptAt w p r m
   size : length O ≡ length p
@@ -171,7 +171,7 @@ kept-same w o p r m e = rw e
 
 step : {w : ℕ} {q : Bytes} {r n : ℕ} → Entries q r n → (p P : Bytes) (b i k c d x : ℕ) → k ≡ suc i → c ≡ d + children (recordOfCode x) → Marking w q r n k c P
     → ((m : ℕ) → b ≤ m → keptAt w P r m ≡ keptAt w p r m) → length P ≡ length p → x < 4 → recordOfCode x ≡ recordAt q i → i < b → b ≤ d → i / 4 < length p
-    → (O : Bytes) × Step w q r n p b i d P O (recordOfCode x)
+    → (O : Bytes) × MarkStep w q r n p b i d P O (recordOfCode x)
 step {w} {q} {r} {n} a p P b i k c d x ek ec v same size small ex hi hd room =
     let z : c - (x / 2 + x % 2) ≡ d = omega (arith, children-code x small) in
     let A : ℕ = bit (odd (x / 2) && keptAt w P r d) in

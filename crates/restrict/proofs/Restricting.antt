@@ -7,11 +7,12 @@ use native.Mathlib.Omega.{arith}
 use lib.ListN.{length, drop, length-map}
 use lib.Seq.{drop-drop, ext-getD}
 use Rattle.loes.specs.Bytes.{bit, tabulate}
-use Rattle.loes.specs.Keys.{Key, KeySet, allKeys, filter, members, smaller}
+use Rattle.loes.specs.Keys.{Key, KeySet, allKeys, those, members, smaller}
 use Rattle.loes.specs.Edges.{Record, recordBits, edges}
+use Rattle.loes.specs.Prefixes.{half, inhabited}
 use Rattle.loes.specs.Entry.{Entry, keysOf, count}
-use Rattle.loes.proofs.Lists.{filter-append, getD-map-in}
-use Rattle.loes.proofs.Tree.{half, inhabited, rootRecord, treeLevel, members-step}
+use Rattle.loes.proofs.Lists.{those-append, getD-map-in}
+use Rattle.loes.proofs.Tree.{rootRecord, treeLevel, members-step}
 use Rattle.loes.proofs.Bytes.{length-tabulate, getD-tabulate}
 use Rattle.loes.proofs.Forest.{NoEmpty}
 use Rattle.loes.proofs.WellFormed.{no-empty-append, no-empty-tree}
@@ -45,10 +46,10 @@ record Masks (x : List Record) (next here : List Bool) (u : List Record) : Type 
   pub left : List Record
   pub masks : (l : List Record) (k : List Bool) → masked (x ++ l) (next ++ k) ≡ left ++ masked l k
   pub alive : map hasEdge left ≡ here
-  pub kept : filter hasEdge left ≡ u
+  pub kept : those hasEdge left ≡ u
 
 masks-none : Masks [] [] [] []
-unfolding filter
+unfolding those
 masks-none = record { left = []; masks = λ l k. refl; alive = refl; kept = refl }
 
 masks-append : {x x' u u' : List Record} {n n' h h' : List Bool} → Masks x n h u → Masks x' n' h' u' → Masks (x ++ x') (n ++ n') (h ++ h') (u ++ u')
@@ -57,7 +58,7 @@ masks-append {x'} {n'} o p =
       left = o .left ++ p .left;
       masks = λ l k. simp append-assoc (o .masks (x' ++ l) (n' ++ k) ∙ ap (λ z. o .left ++ z) (p .masks l k));
       alive = rw map-append (ap₂ _++_ (o .alive) (p .alive));
-      kept = rw filter-append (ap₂ _++_ (o .kept) (p .kept));
+      kept = rw those-append (ap₂ _++_ (o .kept) (p .kept));
     }
 
 -- a part has no more
@@ -65,7 +66,7 @@ abbrev Le : Bool → Bool → Type 0
 Le x a = x ≡ (a && x)
 
 masks-root : (a b x y : Bool) → Le x a → Le y b → Masks (rootRecord a b) (cond a (x ∷ []) [] ++ cond b (y ∷ []) []) (cond (a || b) ((x || y) ∷ []) []) (rootRecord x y)
-unfolding masked maskRecord maskAt children rootRecord hasEdge filter
+unfolding masked maskRecord maskAt children rootRecord hasEdge those
 masks-root true true x y h i = record { left = record { onZero = x; onOne = y } ∷ []; masks = λ l k. refl; alive = refl; kept = refl }
 masks-root true false x y h i = rw i record { left = record { onZero = x; onOne = false } ∷ []; masks = λ l k. refl; alive = refl; kept = refl }
 masks-root false true x y h i = rw h record { left = record { onZero = false; onOne = y } ∷ []; masks = λ l k. refl; alive = refl; kept = refl }
@@ -107,7 +108,7 @@ one-alive false p = refl
 
 alive-members : (m : ℕ) (s p : KeySet) → aliveLevel m m s p ≡ map p (members m s)
 unfolding aliveLevel half
-alive-members zero s p = unfold inhabited within members allKeys filter in one-alive (s []) p
+alive-members zero s p = unfold inhabited within members allKeys those in one-alive (s []) p
 alive-members (suc m) s p =
     rw (members-step m s, map-append, map-map, map-map)
     (ap₂ _++_ (alive-members m (half false s) (half false p)) (alive-members m (half true s) (half true p)))
@@ -165,7 +166,7 @@ from-last m s p o true e =
     sym (unique l (o .left) k 1 (omega arith) (no-empty-levels m 0 m s) (sym f ∙ ap (λ x. masked l x) (sym d ∙ ap (λ x. drop 1 x) g)))
 
 -- so what is made of the levels, less the empty records, is the part's edges
-pub restrict-edges : (m : ℕ) (s p : KeySet) → recordBits (filter hasEdge (maskedFrom 1 (treeLevels m 0 m s) (map p (members m s)))) ≡ edges m (within s p)
+pub restrict-edges : (m : ℕ) (s p : KeySet) → recordBits (those hasEdge (maskedFrom 1 (treeLevels m 0 m s) (map p (members m s)))) ≡ edges m (within s p)
 restrict-edges m s p =
     let o = masks-levels m 0 m s p (omega arith) in
     rw (from-last m s p o (inhabited m s) refl, o .kept) (sym (edges-levels m (within s p)))

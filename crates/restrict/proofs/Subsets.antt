@@ -7,23 +7,25 @@ use native.Mathlib.Omega.{arith}
 use lib.ListN.{length, getD, length-map}
 use lib.Dec.{ltb, eqb}
 use Rattle.loes.specs.Bytes.{Bytes, bit, bitAt, bitsIn, tabulate, packBits}
-use Rattle.loes.specs.Keys.{Key, KeySet, members, filter, smaller, either, without}
+use Rattle.loes.specs.Keys.{Key, KeySet, members, those, smaller, either, without}
 use Rattle.loes.specs.Edges.{Record, recordBits, ones, edges}
 use Rattle.loes.specs.Limits.{maxEdges}
+use Rattle.loes.specs.Prefixes.{inhabited, prefixCount, prefixesBefore, recordsBefore}
 use Rattle.loes.specs.Entry.{Entry, keysOf, count, edgesOf, edgeCount, withSet, ofWidth}
 use Rattle.loes.proofs.Tests.{eq-yes}
-use Rattle.loes.specs.Read.{followed}
-use Rattle.loes.specs.Held.{held, Holds}
-use Rattle.loes.proofs.Lists.{bits-append, length-bits, ones-append, getD-map-in, length-filter}
-use Rattle.loes.proofs.Tree.{inhabited, prefixCount, length-members, prefixesBefore, before-smaller, members-at, index-lt}
-use Rattle.loes.proofs.Navigation.{recordsBefore, length-edgesBefore, ones-edgesBefore, present-is}
+use Rattle.loes.specs.Read.{entryAlong}
+use Rattle.loes.specs.Held.{entryHeld, Holds}
+use Rattle.loes.specs.Model.{unionEntry, differenceEntry}
+use Rattle.loes.proofs.Lists.{bits-append, length-bits, ones-append, getD-map-in, length-those}
+use Rattle.loes.proofs.Tree.{length-members, before-smaller, members-at, index-lt}
+use Rattle.loes.proofs.Navigation.{length-edgesBefore, ones-edgesBefore, present-is}
 use Rattle.loes.proofs.Bytes.{getD-tabulate, length-tabulate}
 use Rattle.loes.proofs.Bits.{length-bitsIn}
 use Rattle.loes.proofs.Extensional.{Agree, edges-ext, members-ext}
 use Rattle.loes.proofs.Forest.{NoEmpty}
-use Rattle.records.specs.Records.{emptyRecord, hasEdge, children, childrenBefore, recordAt, recordsTo, Flag, flagAt, flagsFrom, isFlag, Written}
-use Rattle.merge.specs.Union.{flagOf, unionOf, Merged}
-use Rattle.restrict.specs.Restriction.{differenceOf, restricted, flagMask, maskedFrom, Flagged, Entries, Marked, Restricted}
+use Rattle.records.specs.Records.{emptyRecord, hasEdge, children, childrenBefore, recordAt, recordsTo, Flag, flagAt, flagsFrom, isFlag, Packed}
+use Rattle.merge.specs.Union.{flagOf, Merged}
+use Rattle.restrict.specs.Restriction.{restricted, flagMask, maskedFrom, Flagged, Entries, Marked, Restricted}
 use Rattle.records.proofs.Codes.{records-more, length-records}
 use Rattle.merge.proofs.Merging.{treeLevels, edges-levels}
 use Rattle.merge.proofs.Held.{RecordsHeld, held-records, held-length, some-records, edges-records}
@@ -66,7 +68,7 @@ held-entries {m} {s} {l} {r} p h n e =
 
 -- ---- What is left is the subset's edges
 pub marked-edges : (e : Entry) {w : ℕ} {q p : Bytes} {r n : ℕ} → RecordsHeld (e .width) (e .set) q r → n ≡ count e → Marked w q r n p
-    → recordBits (filter hasEdge (recordsTo p r)) ≡ edgesOf (restricted (flagMask w q r) e)
+    → recordBits (those hasEdge (recordsTo p r)) ≡ edgesOf (restricted (flagMask w q r) e)
 unfolding edgesOf restricted withSet keysOf
 marked-edges e {w} {q} {p} {r} {n} h c v =
     let f : Key → Bool = λ k. flagMask w q r (smaller k (keysOf e)) in
@@ -77,22 +79,22 @@ marked-edges e {w} {q} {p} {r} {n} h c v =
 -- ---- Of flagged edge bytes
 module _ {m b n : ℕ} {q : Bytes} (h : Flagged m b n q) where
   pub flagged-entries : Entries q (b / 2) n
-  unfolding count keysOf held followed
+  unfolding count keysOf entryHeld entryAlong
   flagged-entries = held-entries (h .positive) (held-records m b q (h .room) (h .same)) n (h .members)
 
-  flagged-held : RecordsHeld (held m b q .width) (held m b q .set) q (b / 2)
-  unfolding held followed
+  flagged-held : RecordsHeld (entryHeld m b q .width) (entryHeld m b q .set) q (b / 2)
+  unfolding entryHeld entryAlong
   flagged-held = held-records m b q (h .room) (h .same)
 
-  pub flagged-edges : {w : ℕ} {p : Bytes} → Marked w q (b / 2) n p → recordBits (filter hasEdge (recordsTo p (b / 2))) ≡ edgesOf (restricted (flagMask w q (b / 2)) (held m b q))
-  flagged-edges v = marked-edges (held m b q) flagged-held (h .members) v
+  pub flagged-edges : {w : ℕ} {p : Bytes} → Marked w q (b / 2) n p → recordBits (those hasEdge (recordsTo p (b / 2))) ≡ edgesOf (restricted (flagMask w q (b / 2)) (entryHeld m b q))
+  flagged-edges v = marked-edges (entryHeld m b q) flagged-held (h .members) v
 
-  pub flagged-count : {w : ℕ} {p : Bytes} → Marked w q (b / 2) n p → edgeCount (restricted (flagMask w q (b / 2)) (held m b q)) ≡ 2 * length (filter hasEdge (recordsTo p (b / 2)))
+  pub flagged-count : {w : ℕ} {p : Bytes} → Marked w q (b / 2) n p → edgeCount (restricted (flagMask w q (b / 2)) (entryHeld m b q)) ≡ 2 * length (those hasEdge (recordsTo p (b / 2)))
   unfolding edgeCount
-  flagged-count {p} v = ap length (sym (flagged-edges v)) ∙ length-bits (filter hasEdge (recordsTo p (b / 2)))
+  flagged-count {p} v = ap length (sym (flagged-edges v)) ∙ length-bits (those hasEdge (recordsTo p (b / 2)))
 
-  pub flagged-restricted : {w : ℕ} {p o u : Bytes} {k : ℕ} → Marked w q (b / 2) n p → Written (recordBits (filter hasEdge (recordsTo p (b / 2)))) o u k → k ≤ 2 * (b / 2)
-      → Restricted (flagMask w q (b / 2)) (held m b q) (b / 2) q o p u k
+  pub flagged-restricted : {w : ℕ} {p o u : Bytes} {k : ℕ} → Marked w q (b / 2) n p → Packed (recordBits (those hasEdge (recordsTo p (b / 2)))) o u k → k ≤ 2 * (b / 2)
+      → Restricted (flagMask w q (b / 2)) (entryHeld m b q) (b / 2) q o p u k
   flagged-restricted v c g =
       record { edges = rw (flagged-edges v) at c; less = g; flags = λ j i. unfold flagAt in rw (v .other j i); queue = v .size }
 
@@ -106,12 +108,12 @@ pub fewer-edges : (m : ℕ) (s p : KeySet) → length (edges m (within s p)) ≤
 fewer-edges m s p =
     let l : List Record = treeLevels m 0 m s in
     let k : List Record = maskedFrom 1 l (map p (members m s)) in
-    rw (← restrict-edges m s p, edges-levels m s, length-bits (filter hasEdge k), length-bits l)
-    (omega (arith, length-filter hasEdge k, length-from 1 l (map p (members m s))))
+    rw (← restrict-edges m s p, edges-levels m s, length-bits (those hasEdge k), length-bits l)
+    (omega (arith, length-those hasEdge k, length-from 1 l (map p (members m s))))
 
 -- ---- A merge's flags and edges
 module _ {e f : Entry} {q p : Bytes} {b n : ℕ} (v : Merged e f q p b n) where
-  pub merged-count : n ≡ count (unionOf e f)
+  pub merged-count : n ≡ count (unionEntry e f)
   unfolding count flagsFrom
   merged-count = sym (length-tabulate (λ k. flagAt p (b / 2 + k)) n) ∙ ap length (v .flags) ∙ rw length-map
 
@@ -131,7 +133,7 @@ module _ {e f : Entry} {q p : Bytes} {b n : ℕ} (v : Merged e f q p b n) where
   merged-entries h = held-entries h merged-held n merged-count
 
   -- a member's flag is the one at its index
-  flag-at : (k : Key) → length k ≡ e .width → either (e .set) (f .set) k ≡ true → flagAt p (b / 2 + smaller k (keysOf (unionOf e f))) ≡ flagOf (e .set) (f .set) k
+  flag-at : (k : Key) → length k ≡ e .width → either (e .set) (f .set) k ≡ true → flagAt p (b / 2 + smaller k (keysOf (unionEntry e f))) ≡ flagOf (e .set) (f .set) k
   unfolding count keysOf withSet flagsFrom
   flag-at k l h =
       let m : ℕ = e .width in
@@ -148,12 +150,12 @@ module _ {e f : Entry} {q p : Bytes} {b n : ℕ} (v : Merged e f q p b n) where
 
   -- the members whose flag is w
   pub flagged-set : (w : ℕ) (k : Key) → length k ≡ e .width
-      → restricted (flagMask w p (b / 2)) (unionOf e f) .set k ≡ (either (e .set) (f .set) k && isFlag w (flagOf (e .set) (f .set) k))
+      → restricted (flagMask w p (b / 2)) (unionEntry e f) .set k ≡ (either (e .set) (f .set) k && isFlag w (flagOf (e .set) (f .set) k))
   unfolding restricted withSet flagMask
   flagged-set w k l = go (either (e .set) (f .set) k) refl
     where
       go : (c : Bool) → either (e .set) (f .set) k ≡ c
-          → (c && isFlag w (flagAt p (b / 2 + smaller k (keysOf (unionOf e f))))) ≡ (c && isFlag w (flagOf (e .set) (f .set) k))
+          → (c && isFlag w (flagAt p (b / 2 + smaller k (keysOf (unionEntry e f))))) ≡ (c && isFlag w (flagOf (e .set) (f .set) k))
       go true h = ap (isFlag w) (flag-at k l h)
       go false h = refl
 
@@ -168,61 +170,61 @@ first-only s t k = go (s k) (t k)
     go false true = refl
     go false false = refl
 
-pub difference-edges : {e f : Entry} {q p : Bytes} {b n : ℕ} → Merged e f q p b n → edgesOf (restricted (flagMask 1 p (b / 2)) (unionOf e f)) ≡ edgesOf (differenceOf e f)
+pub difference-edges : {e f : Entry} {q p : Bytes} {b n : ℕ} → Merged e f q p b n → edgesOf (restricted (flagMask 1 p (b / 2)) (unionEntry e f)) ≡ edgesOf (differenceEntry e f)
 unfolding edgesOf withSet restricted
 difference-edges {e} {f} {p} {b} v =
-    edges-ext (e .width) (restricted (flagMask 1 p (b / 2)) (unionOf e f) .set) (without (e .set) (f .set)) (λ k l. flagged-set v 1 k l ∙ first-only (e .set) (f .set) k)
+    edges-ext (e .width) (restricted (flagMask 1 p (b / 2)) (unionEntry e f) .set) (without (e .set) (f .set)) (λ k l. flagged-set v 1 k l ∙ first-only (e .set) (f .set) k)
 
-pub subtracted : {e f : Entry} {q p x : Bytes} {b n : ℕ} → Merged e f q p b n → Marked 1 p (b / 2) n x → recordBits (filter hasEdge (recordsTo x (b / 2))) ≡ edgesOf (differenceOf e f)
+pub subtracted : {e f : Entry} {q p x : Bytes} {b n : ℕ} → Merged e f q p b n → Marked 1 p (b / 2) n x → recordBits (those hasEdge (recordsTo x (b / 2))) ≡ edgesOf (differenceEntry e f)
 unfolding withSet
-subtracted {e} {f} v w = marked-edges (unionOf e f) (merged-held v) (merged-count v) w ∙ difference-edges v
+subtracted {e} {f} v w = marked-edges (unionEntry e f) (merged-held v) (merged-count v) w ∙ difference-edges v
 
-pub difference-fewer : (e f : Entry) → edgeCount (differenceOf e f) ≤ edgeCount e
+pub difference-fewer : (e f : Entry) → edgeCount (differenceEntry e f) ≤ edgeCount e
 unfolding edgeCount edgesOf withSet
 difference-fewer e f =
     let p : KeySet = λ k. not (f .set k) in
     rw (edges-ext (e .width) (without (e .set) (f .set)) (within (e .set) p) (λ k l. unfold without within in refl)) (fewer-edges (e .width) (e .set) p)
 
 -- the difference, of a first set in x bits
-pub subtract-entries : {m x : ℕ} {a : Bytes} {f : Entry} {q p : Bytes} {b n : ℕ} → Holds m x a → Merged (held m x a) f q p b n → Entries p (b / 2) n
-unfolding held followed
+pub subtract-entries : {m x : ℕ} {a : Bytes} {f : Entry} {q p : Bytes} {b n : ℕ} → Holds m x a → Merged (entryHeld m x a) f q p b n → Entries p (b / 2) n
+unfolding entryHeld entryAlong
 subtract-entries h v = merged-entries v (h .positive)
 
-module _ {m x : ℕ} {a : Bytes} {f : Entry} {q p z : Bytes} {b n : ℕ} (h : Holds m x a) (v : Merged (held m x a) f q p b n) (w : Marked 1 p (b / 2) n z) where
-  first-count : edgeCount (held m x a) ≡ x
+module _ {m x : ℕ} {a : Bytes} {f : Entry} {q p z : Bytes} {b n : ℕ} (h : Holds m x a) (v : Merged (entryHeld m x a) f q p b n) (w : Marked 1 p (b / 2) n z) where
+  first-count : edgeCount (entryHeld m x a) ≡ x
   unfolding edgeCount bitsIn
   first-count = ap length (h .same) ∙ length-tabulate (bitAt a) x
 
-  pub subtracted-count : 2 * length (filter hasEdge (recordsTo z (b / 2))) ≤ x
+  pub subtracted-count : 2 * length (those hasEdge (recordsTo z (b / 2))) ≤ x
   unfolding edgeCount
   subtracted-count =
-      let l : List Record = filter hasEdge (recordsTo z (b / 2)) in
-      omega (arith, length-bits l, ap length (subtracted v w), difference-fewer (held m x a) f, first-count)
+      let l : List Record = those hasEdge (recordsTo z (b / 2)) in
+      omega (arith, length-bits l, ap length (subtracted v w), difference-fewer (entryHeld m x a) f, first-count)
 
-  pub subtract-done : {o y : Bytes} {k : ℕ} → Written (recordBits (filter hasEdge (recordsTo z (b / 2)))) o y k → Written (edgesOf (differenceOf (held m x a) f)) o y k × (k ≤ x)
+  pub subtract-done : {o y : Bytes} {k : ℕ} → Packed (recordBits (those hasEdge (recordsTo z (b / 2)))) o y k → Packed (edgesOf (differenceEntry (entryHeld m x a) f)) o y k × (k ≤ x)
   subtract-done c =
-      let g : recordBits (filter hasEdge (recordsTo z (b / 2))) ≡ edgesOf (differenceOf (held m x a) f) = subtracted v w in (
+      let g : recordBits (those hasEdge (recordsTo z (b / 2))) ≡ edgesOf (differenceEntry (entryHeld m x a) f) = subtracted v w in (
         record { count = c .count ∙ ap length g; bytes = c .bytes ∙ ap packBits g; size = c .size },
-        omega (arith, c .count, length-bits (filter hasEdge (recordsTo z (b / 2))), subtracted-count),
+        omega (arith, c .count, length-bits (those hasEdge (recordsTo z (b / 2))), subtracted-count),
       )
 
 -- ---- A merge can be restricted
-same-set : (e : Entry) (p : Bytes) (b : ℕ) → bitsIn p b ≡ edgesOf e → 0 < e .width → Agree (e .width) (held (e .width) b p .set) (e .set)
-unfolding edgesOf held followed ofWidth
+same-set : (e : Entry) (p : Bytes) (b : ℕ) → bitsIn p b ≡ edgesOf e → 0 < e .width → Agree (e .width) (entryHeld (e .width) b p .set) (e .set)
+unfolding edgesOf entryHeld entryAlong ofWidth
 same-set e p b w h k l = rw (w, l, eq-yes (e .width)) (present-is k (e .width) (e .set) l h)
 
-same-edges : (e : Entry) (p : Bytes) (b : ℕ) → bitsIn p b ≡ edgesOf e → 0 < e .width → edgesOf (held (e .width) b p) ≡ bitsIn p b
-unfolding edgesOf held followed
-same-edges e p b w h = edges-ext (e .width) (held (e .width) b p .set) (e .set) (same-set e p b (unfold edgesOf in w) h) ∙ sym w
+same-edges : (e : Entry) (p : Bytes) (b : ℕ) → bitsIn p b ≡ edgesOf e → 0 < e .width → edgesOf (entryHeld (e .width) b p) ≡ bitsIn p b
+unfolding edgesOf entryHeld entryAlong
+same-edges e p b w h = edges-ext (e .width) (entryHeld (e .width) b p .set) (e .set) (same-set e p b (unfold edgesOf in w) h) ∙ sym w
 
 pub merged-flagged : {e f : Entry} {q p : Bytes} {b n : ℕ} → Merged e f q p b n → 0 < e .width → length q ≤ maxEdges → Flagged (e .width) b n p
-unfolding count keysOf withSet held followed
+unfolding count keysOf withSet entryHeld entryAlong
 merged-flagged {e} {f} {p} {b} v h l =
     record {
       positive = h;
-      same = same-edges (unionOf e f) p b (v .edges) h;
+      same = same-edges (unionEntry e f) p b (v .edges) h;
       room = omega (arith, v .fits, merged-even v);
-      members = merged-count v ∙ ap length (sym (members-ext (e .width) (held (e .width) b p .set) (either (e .set) (f .set)) (same-set (unionOf e f) p b (v .edges) h)));
+      members = merged-count v ∙ ap length (sym (members-ext (e .width) (entryHeld (e .width) b p .set) (either (e .set) (f .set)) (same-set (unionEntry e f) p b (v .edges) h)));
       flags = v .fits;
       small = rw (v .size) l;
     }

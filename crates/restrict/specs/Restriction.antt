@@ -7,20 +7,16 @@ use lib.ListN.{length, getD, drop}
 use lib.Dec.{ltb}
 use Rattle.loes.specs.Limits.{maxEdges}
 use Rattle.loes.specs.Bytes.{Bytes, bit, bitsIn, tabulate}
-use Rattle.loes.specs.Keys.{Key, without, smaller, filter}
+use Rattle.loes.specs.Keys.{Key, smaller, those}
 use Rattle.loes.specs.Edges.{Record}
 use Rattle.loes.specs.Entry.{Entry, keysOf, count, edgesOf, withSet}
-use Rattle.loes.specs.Held.{held}
-use Rattle.records.specs.Records.{hasEdge, children, childrenBefore, recordOfCode, recordAt, recordsTo, recordsAt, flagAt, isFlag, Written}
+use Rattle.loes.specs.Held.{entryHeld}
+use Rattle.records.specs.Records.{hasEdge, children, childrenBefore, recordOfCode, recordAt, recordsTo, recordsAt, flagAt, isFlag, Packed}
 
 -- ---- On entries
 -- the keys whose index, the number of smaller keys, a mask takes
 unfoldable pub restricted : (ℕ → Bool) → Entry → Entry
 restricted f e = withSet e (λ (k : Key). e .set k && f (smaller k (keysOf e)))
-
--- the keys of the first set but not of the second
-abbrev pub differenceOf : Entry → Entry → Entry
-differenceOf e f = withSet e (without (e .set) (f .set))
 
 -- the mask of those members whose flag, from place r on, is w
 unfoldable pub flagMask : ℕ → Bytes → ℕ → ℕ → Bool
@@ -29,15 +25,15 @@ flagMask w q r i = isFlag w (flagAt q (r + i))
 -- b edge bits, any number, that hold an entry of n members, whose flags stand behind its records
 pub record Flagged (m b n : ℕ) (q : Bytes) : Type 0 where
   pub positive : 0 < m
-  pub same : edgesOf (held m b q) ≡ bitsIn q b
+  pub same : edgesOf (entryHeld m b q) ≡ bitsIn q b
   pub room : b ≤ 8 * length q
-  pub members : n ≡ count (held m b q)
+  pub members : n ≡ count (entryHeld m b q)
   pub flags : b / 2 + n ≤ 4 * length q
   pub small : length q ≤ maxEdges
 
 -- what restricting an entry of r records leaves: the subset's edges in b bits, no more than there were; the members' flags stay
 pub record Restricted (f : ℕ → Bool) (e : Entry) (r : ℕ) (q o p u : Bytes) (b : ℕ) : Type 0 where
-  pub edges : Written (edgesOf (restricted f e)) o u b
+  pub edges : Packed (edgesOf (restricted f e)) o u b
   pub less : b ≤ 2 * r
   pub flags : (j : ℕ) → r ≤ j → flagAt p j ≡ flagAt q j
   pub queue : length p ≡ length q
@@ -80,7 +76,7 @@ pub record Marked (w : ℕ) (q : Bytes) (r n : ℕ) (p : Bytes) : Type 0 where
 
 -- the records of q with an edge, moved together in p
 pub record Compacted (q : Bytes) (r : ℕ) (o p : Bytes) (k : ℕ) : Type 0 where
-  pub out : recordsTo p k ≡ filter hasEdge (recordsTo q r)
+  pub out : recordsTo p k ≡ those hasEdge (recordsTo q r)
   pub size : length p ≡ length o
 
 -- ---- Several records at a time
@@ -104,5 +100,5 @@ pub record MarkRoom (w r i k c l : ℕ) : Type 0 where
 
 -- the records of the four bytes from byte j on that have an edge, put behind the first k
 pub record BlockCompacted (q : Bytes) (j : ℕ) (o : Bytes) (k : ℕ) (p : Bytes) (l : ℕ) : Type 0 where
-  pub records : recordsTo p l ≡ recordsTo o k ++ filter hasEdge (recordsAt q (4 * j) 16)
+  pub records : recordsTo p l ≡ recordsTo o k ++ those hasEdge (recordsAt q (4 * j) 16)
   pub size : length p ≡ length o

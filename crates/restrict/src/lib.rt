@@ -7,15 +7,16 @@ ghost use lib.ListN.{length, getD};
 ghost use lib.Dec.{ltb, eqb};
 ghost use Rattle.loes.specs.Limits.{maxEdges};
 ghost use Rattle.loes.specs.Bytes.{odd, bit};
-ghost use Rattle.loes.specs.Keys.{filter};
+ghost use Rattle.loes.specs.Keys.{those};
 ghost use Rattle.loes.specs.Edges.{recordBits};
 ghost use Rattle.loes.specs.Entry.{edgesOf, edgeCount};
-ghost use Rattle.loes.specs.Held.{held, Holds};
-ghost use Rattle.records.specs.Records.{recordOfCode, recordAt, recordsTo, hasEdge, Written};
+ghost use Rattle.loes.specs.Held.{entryHeld, Holds};
+ghost use Rattle.loes.specs.Model.{differenceEntry};
+ghost use Rattle.records.specs.Records.{recordOfCode, recordAt, recordsTo, hasEdge, Packed};
 ghost use Rattle.records.specs.Numbers.{recordsOf, bitsOf, Short, overread};
 ghost use Rattle.records.specs.Tables.{spread, byEdge, keptBy, Spreads, Parted, Runs, TablesLent};
 ghost use Rattle.merge.specs.Union.{QueueRoom};
-ghost use Rattle.restrict.specs.Restriction.{restricted, differenceOf, flagMask, Flagged, Restricted, keptAt, maskedAt, childCount, Entries, RecordMarked, MarkRoom, Marked, BlockCompacted, Compacted};
+ghost use Rattle.restrict.specs.Restriction.{restricted, flagMask, Flagged, Restricted, keptAt, maskedAt, childCount, Entries, RecordMarked, MarkRoom, Marked, BlockCompacted, Compacted};
 use bits::RecordIndex;
 use records::Run;
 
@@ -69,7 +70,7 @@ fn mark_record(q: &mut [u8], r: RecordIndex, w: u8, x: u8, i: RecordIndex, c: Re
 }
 
 // How many edges a byte has.
-fn edges_in(parts: &[u32], x: u8) -> usize
+fn count_edges(parts: &[u32], x: u8) -> usize
     requires { ⌜ Parted (now parts) ⌝ }
     ensures { λ r. ⌜ (r ≡ childCount (recordsOf 4 x)) × (r ≤ 8) ⌝ }
 {
@@ -93,7 +94,7 @@ fn mark_byte(q: &[u8], spreads: &[u8], parts: &[u32], w: usize, x: u8, d: Record
     ensures { λ z. ⌜ (recordsOf 4 z ≡ maskedAt (λ m. keptBy w (recordAt (now (q .entry)) m)) (d .0) (recordsOf 4 x)) × (z < 256) ⌝ }
 {
     let v = records::window(q, d);
-    let n = edges_in(parts, x / 16);
+    let n = count_edges(parts, x / 16);
     let a = mark_half(
         spreads,
         parts,
@@ -161,7 +162,7 @@ fn mark_bytes(spreads: &[u8], parts: &[u32], q: &mut [u8], r: RecordIndex, n: us
     while i > 0 {
         let j = i - 1;
         let y = q[j / 4];
-        let k = edges_in(parts, y);
+        let k = count_edges(parts, y);
         if has_mark(w, r, RecordIndex(i), k, RecordIndex(c), q.len()) {
             let d = RecordIndex(c - k);
             let z = mark_byte(q, spreads, parts, test_at(d, r, w), y, d);
@@ -223,7 +224,7 @@ fn mark(spreads: &[u8], parts: &[u32], q: &mut [u8], r: RecordIndex, n: usize, w
 // The records of a byte that have an edge.
 fn byte_run(parts: &[u32], runs: &[u16], x: u8) -> Run
     requires { ⌜ Parted (now parts) × Runs (now runs) ⌝ }
-    ensures { λ r. ⌜ (recordsOf (r .bits / 2) (r .records) ≡ filter hasEdge (recordsOf 4 x)) × Short 4 (r .records) (r .bits) ⌝ }
+    ensures { λ r. ⌜ (recordsOf (r .bits / 2) (r .records) ≡ those hasEdge (recordsOf 4 x)) × Short 4 (r .records) (r .bits) ⌝ }
 {
     let f = records::parts_at(parts, x);
     records::run_at(runs, f.firsts, f.seconds)
@@ -232,7 +233,7 @@ fn byte_run(parts: &[u32], runs: &[u16], x: u8) -> Run
 // The same of two bytes.
 fn bytes_run(parts: &[u32], runs: &[u16], x: u8, y: u8) -> Run
     requires { ⌜ Parted (now parts) × Runs (now runs) ⌝ }
-    ensures { λ r. ⌜ (recordsOf (r .bits / 2) (r .records) ≡ filter hasEdge (recordsOf 4 x ++ recordsOf 4 y)) × Short 8 (r .records) (r .bits) ⌝ }
+    ensures { λ r. ⌜ (recordsOf (r .bits / 2) (r .records) ≡ those hasEdge (recordsOf 4 x ++ recordsOf 4 y)) × Short 8 (r .records) (r .bits) ⌝ }
 {
     let h = byte_run(parts, runs, x);
     let g = byte_run(parts, runs, y);
@@ -287,7 +288,7 @@ fn compact(
     r: RecordIndex,
     out: &mut [u8],
 ) -> RecordIndex
-    requires { ⌜ (r .0 ≤ 4 * length (now q)) × (r .0 ≤ 4 * maxEdges) × (length (filter hasEdge (recordsTo (now q) (r .0))) < 4 * length (now out)) ⌝ }
+    requires { ⌜ (r .0 ≤ 4 * length (now q)) × (r .0 ≤ 4 * maxEdges) × (length (those hasEdge (recordsTo (now q) (r .0))) < 4 * length (now out)) ⌝ }
     requires { ⌜ TablesLent (now spreads) (now parts) (now runs) ⌝ }
     ensures { λ k. ⌜ Compacted (now (q .entry)) (r .0) (now (out .entry)) (now (out .exit)) (k .0) ⌝ }
 {
@@ -316,9 +317,9 @@ fn collect(
     r: RecordIndex,
     out: &mut [u8],
 ) -> usize
-    requires { ⌜ (r .0 ≤ 4 * length (now q)) × (r .0 ≤ 4 * maxEdges) × (length (filter hasEdge (recordsTo (now q) (r .0))) < 4 * length (now out)) ⌝ }
+    requires { ⌜ (r .0 ≤ 4 * length (now q)) × (r .0 ≤ 4 * maxEdges) × (length (those hasEdge (recordsTo (now q) (r .0))) < 4 * length (now out)) ⌝ }
     requires { ⌜ TablesLent (now spreads) (now parts) (now runs) ⌝ }
-    ensures { λ b. ⌜ Written (recordBits (filter hasEdge (recordsTo (now (q .entry)) (r .0)))) (now (out .entry)) (now (out .exit)) b × (b ≤ 2 * r .0) ⌝ }
+    ensures { λ b. ⌜ Packed (recordBits (those hasEdge (recordsTo (now (q .entry)) (r .0)))) (now (out .entry)) (now (out .exit)) b × (b ≤ 2 * r .0) ⌝ }
 {
     let k = compact(q, spreads, parts, runs, r, out);
     records::seal(out, k);
@@ -339,8 +340,8 @@ pub fn restrict(
 ) -> usize
     requires { ⌜ Flagged m b n (now q) ⌝ }
     requires { ⌜ TablesLent (now spreads) (now parts) (now runs) ⌝ }
-    requires { ⌜ edgeCount (restricted (flagMask w (now q) (b / 2)) (held m b (now q))) < 8 * length (now out) ⌝ }
-    ensures { λ k. ⌜ Restricted (flagMask w (now (q .entry)) (b / 2)) (held m b (now (q .entry))) (b / 2) (now (q .entry)) (now (out .entry)) (now (q .exit)) (now (out .exit)) k ⌝ }
+    requires { ⌜ edgeCount (restricted (flagMask w (now q) (b / 2)) (entryHeld m b (now q))) < 8 * length (now out) ⌝ }
+    ensures { λ k. ⌜ Restricted (flagMask w (now (q .entry)) (b / 2)) (entryHeld m b (now (q .entry))) (b / 2) (now (q .entry)) (now (out .entry)) (now (q .exit)) (now (out .exit)) k ⌝ }
 {
     let r = RecordIndex(b / 2);
     mark(spreads, parts, q, r, n, w);
@@ -369,7 +370,7 @@ pub fn subtract(
     requires { ⌜ Holds m bb (now b) × (bb / 2 + overread ≤ 4 * length (now b)) ⌝ }
     requires { ⌜ TablesLent (now spreads) (now parts) (now runs) ⌝ }
     requires { ⌜ QueueRoom ba bb (now q) × (ba < 8 * length (now out)) ⌝ }
-    ensures { λ k. ⌜ Written (edgesOf (differenceOf (held m ba (now (a .entry))) (held m bb (now (b .entry))))) (now (out .entry)) (now (out .exit)) k × (k ≤ ba) ⌝ }
+    ensures { λ k. ⌜ Packed (edgesOf (differenceEntry (entryHeld m ba (now (a .entry))) (entryHeld m bb (now (b .entry))))) (now (out .entry)) (now (out .exit)) k × (k ≤ ba) ⌝ }
 {
     let u = merge::merge(m, a, ba, b, bb, spreads, parts, runs, q);
     let r = RecordIndex(u.edges / 2);

@@ -1,5 +1,7 @@
-use Rattle.loes.specs.Bytes.{started}
-use Rattle.loes.specs.Read.{start4, start5, start6, endOf}
+use mathlib.Core.Path.{ap₂, _∙_}
+use native.Mathlib.Omega.{arith}
+use Rattle.loes.specs.Read.{endOf}
+use Rattle.encoding.proofs.Opened.{placed-self}
 use borrow.Author.Needs.{needs}
 use Rattle.build.proofs.length_of.Statement.{statement}
 use Rattle.build.proofs.length_of.Tie as tie
@@ -7,19 +9,14 @@ use Rattle.build.proofs.length_of.Tie as tie
 new-requires : tie.Need-new-requires
 new-requires c κs = search needs
 
-add-result : tie.Need-add-result
-add-result c = search needs
-
-mul-result : tie.Need-mul-result
-mul-result c = search needs
-
-add-result-2 : tie.Need-add-result-2
-unfolding start6 start5 start4 started
-add-result-2 c = search needs
+end-of-requires : tie.Need-end-of-requires
+end-of-requires c κs =
+    let n = c .new .ensures in
+    let s = c .before in
+    (placed-self _ _ _ _ n, omega (arith, n .width, s .pre .0), omega (arith, n .bits, s .pre .1))
 
 returns : tie.Need-returns
-unfolding endOf started
-returns c = search needs
+returns c = let n = c .before .new .ensures in c .end-of .ensures ∙ ap₂ endOf (n .width) (n .bits)
 
 pub length-of-spec : {M : Type 1} → statement M
-length-of-spec = tie.close (tie.spec new-requires add-result mul-result add-result-2 returns)
+length-of-spec = tie.close (tie.spec new-requires end-of-requires returns)

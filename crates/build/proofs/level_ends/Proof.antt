@@ -10,7 +10,8 @@ use native.Mathlib.Decide.{decLe}
 use borrow.Author.Needs.{needs}
 use Rattle.loes.specs.Bytes.{Bytes, tabulate, bitsIn}
 use Rattle.loes.specs.Edges.{ones, onesBefore}
-use Rattle.loes.proofs.Ends.{roots, ends, ends-grow}
+use Rattle.loes.specs.Prefixes.{roots, ends}
+use Rattle.loes.proofs.Ends.{ends-grow}
 use Rattle.loes.proofs.Seven.{before-le}
 use Rattle.loes.proofs.Bits.{length-bitsIn}
 use Rattle.bits.proofs.Counts.{before-bits}

@@ -2,6 +2,7 @@ use mathlib.Core.Path.{ap, _∙_}
 use mathlib.Core.List.{_∷_}
 use Prim.Native.Nat.{suc}
 use native.Mathlib.Omega.{arith}
+use Rattle.loes.specs.Limits.{headBytes, countBytes}
 use Rattle.loes.specs.Bytes.{bigEndian, front}
 use Rattle.loes.proofs.Bytes.{length-bigEndian}
 use Rattle.build.proofs.Front.{behind, field-is}
@@ -31,10 +32,10 @@ returns : tie.Need-returns
 returns c =
     let head = c .before .before .before .before .before .before in
     let s = head .before .before .before in
-    let x = bigEndian 4 (s .args .n) in
-    behind (2 ∷ bigEndian 2 4) x (s .args .out .now) (head .put-head .last .0) (c .before .before .put4 .last .0) 3 (ap suc (length-bigEndian 2 4)) (head .put-head .ensures)
-    (omega (arith, length-bigEndian 2 4, length-bigEndian 4 (s .args .n))) (c .before .before .put4 .ensures)
-    ∙ ap (λ y. front y (s .args .out .now)) (field-is 2 x 4 (length-bigEndian 4 (s .args .n)))
+    let x = bigEndian countBytes (s .args .n) in
+    behind (2 ∷ bigEndian 2 countBytes) x (s .args .out .now) (head .put-head .last .0) (c .before .before .put4 .last .0) headBytes (ap suc (length-bigEndian 2 countBytes)) (head .put-head .ensures)
+    (omega (arith, length-bigEndian 2 countBytes, length-bigEndian countBytes (s .args .n))) (c .before .before .put4 .ensures)
+    ∙ ap (λ y. front y (s .args .out .now)) (field-is 2 x countBytes (length-bigEndian countBytes (s .args .n)))
 
 pub put-count-spec : {M : Type 1} → statement M
 put-count-spec =

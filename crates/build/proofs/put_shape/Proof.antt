@@ -1,10 +1,12 @@
 use mathlib.Core.Path.{_≡_}
 use mathlib.Core.List.{_++_}
-use Prim.Native.Nat.{ℕ, _+_, _*_}
+use Prim.Native.Nat.{ℕ, _+_}
 use native.Mathlib.Omega.{arith}
 use lib.ListN.{length, getD, length-append}
+use Rattle.loes.specs.Limits.{headBytes, widthBytes, countBytes, levelEntry}
 use Rattle.loes.specs.Bytes.{Bytes, bigEndian, bigEndians}
 use Rattle.loes.specs.Encode.{field}
+use Rattle.loes.specs.Read.{levelBytes, start2, start3}
 use Rattle.loes.proofs.Bytes.{length-bigEndian, length-bigEndians, field-length}
 use Rattle.build.proofs.Front.{behind}
 use borrow.Author.Needs.{needs}
@@ -43,24 +45,24 @@ same-length c = search needs
 
 -- the three fields, at the function's entry
 abbrev F1 : tie.Start → Bytes
-F1 s = field 1 (bigEndian 2 (s .args .m))
+F1 s = field 1 (bigEndian widthBytes (s .args .m))
 
 abbrev F2 : tie.Start → Bytes
-F2 s = field 2 (bigEndian 4 (s .args .n))
+F2 s = field 2 (bigEndian countBytes (s .args .n))
 
 abbrev F3 : tie.Start → Bytes
-F3 s = field 3 (bigEndians 4 (λ (d : ℕ). getD (s .args .ends .now) d 0) (s .args .m))
+F3 s = field 3 (bigEndians levelEntry (λ (d : ℕ). getD (s .args .ends .now) d 0) (s .args .m))
 
-size1 : (s : tie.Start) → length (F1 s) ≡ 5
-size1 s = omega (arith, field-length 1 (bigEndian 2 (s .args .m)), length-bigEndian 2 (s .args .m))
+size1 : (s : tie.Start) → length (F1 s) ≡ start2
+size1 s = omega (arith, field-length 1 (bigEndian widthBytes (s .args .m)), length-bigEndian widthBytes (s .args .m))
 
-size2 : (s : tie.Start) → length (F1 s ++ F2 s) ≡ 12
-size2 s = omega (arith, length-append (F1 s) (F2 s), size1 s, field-length 2 (bigEndian 4 (s .args .n)), length-bigEndian 4 (s .args .n))
+size2 : (s : tie.Start) → length (F1 s ++ F2 s) ≡ start3
+size2 s = omega (arith, length-append (F1 s) (F2 s), size1 s, field-length 2 (bigEndian countBytes (s .args .n)), length-bigEndian countBytes (s .args .n))
 
-size3 : (s : tie.Start) → length (F3 s) ≡ 3 + 4 * s .args .m
+size3 : (s : tie.Start) → length (F3 s) ≡ headBytes + levelBytes (s .args .m)
 size3 s =
     let f : ℕ → ℕ = λ (d : ℕ). getD (s .args .ends .now) d 0 in
-    omega (arith, field-length 3 (bigEndians 4 f (s .args .m)), length-bigEndians 4 f (s .args .m))
+    omega (arith, field-length 3 (bigEndians levelEntry f (s .args .m)), length-bigEndians levelEntry f (s .args .m))
 
 abbrev width : tie.After-put-count → tie.After-put-width
 width c = c .before .before .before .before
@@ -74,8 +76,8 @@ returns c =
     let w = width n in
     let s = start w in
     let xs = s .args .out .now in
-    let two = behind (F1 s) (F2 s) xs (w .put-width .last .0) (n .put-count .last .0) 5 (size1 s) (w .put-width .ensures) (omega (arith, length-append (F1 s) (F2 s), size2 s)) (n .put-count .ensures) in
-    behind (F1 s ++ F2 s) (F3 s) xs _ (c .before .before .put-levels .last .0) 12 (size2 s) two (omega (arith, size2 s, size3 s)) (c .before .before .put-levels .ensures)
+    let two = behind (F1 s) (F2 s) xs (w .put-width .last .0) (n .put-count .last .0) start2 (size1 s) (w .put-width .ensures) (omega (arith, length-append (F1 s) (F2 s), size2 s)) (n .put-count .ensures) in
+    behind (F1 s ++ F2 s) (F3 s) xs _ (c .before .before .put-levels .last .0) start3 (size2 s) two (omega (arith, size2 s, size3 s)) (c .before .before .put-levels .ensures)
 
 pub put-shape-spec : {M : Type 1} → statement M
 put-shape-spec =

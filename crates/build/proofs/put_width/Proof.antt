@@ -2,6 +2,7 @@ use mathlib.Core.Path.{ap, _∙_}
 use mathlib.Core.List.{_∷_}
 use Prim.Native.Nat.{suc}
 use native.Mathlib.Omega.{arith}
+use Rattle.loes.specs.Limits.{headBytes, widthBytes}
 use Rattle.loes.specs.Bytes.{bigEndian, front}
 use Rattle.loes.proofs.Bytes.{length-bigEndian}
 use Rattle.build.proofs.Front.{behind, field-is}
@@ -31,10 +32,10 @@ returns : tie.Need-returns
 returns c =
     let head = c .before .before .before .before .before .before in
     let s = head .before .before .before in
-    let x = bigEndian 2 (s .args .m) in
-    behind (1 ∷ bigEndian 2 2) x (s .args .out .now) (head .put-head .last .0) (c .before .before .put2 .last .0) 3 (ap suc (length-bigEndian 2 2)) (head .put-head .ensures)
-    (omega (arith, length-bigEndian 2 2, length-bigEndian 2 (s .args .m))) (c .before .before .put2 .ensures)
-    ∙ ap (λ y. front y (s .args .out .now)) (field-is 1 x 2 (length-bigEndian 2 (s .args .m)))
+    let x = bigEndian widthBytes (s .args .m) in
+    behind (1 ∷ bigEndian 2 widthBytes) x (s .args .out .now) (head .put-head .last .0) (c .before .before .put2 .last .0) headBytes (ap suc (length-bigEndian 2 widthBytes)) (head .put-head .ensures)
+    (omega (arith, length-bigEndian 2 widthBytes, length-bigEndian widthBytes (s .args .m))) (c .before .before .put2 .ensures)
+    ∙ ap (λ y. front y (s .args .out .now)) (field-is 1 x widthBytes (length-bigEndian widthBytes (s .args .m)))
 
 pub put-width-spec : {M : Type 1} → statement M
 put-width-spec =

@@ -10,10 +10,10 @@ use Rattle.loes.specs.Bytes.{Bytes}
 use Rattle.loes.specs.Entry.{Entry, edgeCount}
 use Rattle.loes.specs.Encode.{encode}
 use Rattle.loes.specs.Read.{endOf}
-use Rattle.loes.specs.Held.{held}
+use Rattle.loes.specs.Held.{entryHeld}
 use Rattle.loes.specs.Model.{wrote, refusal}
 use Rattle.loes.proofs.Writes.{writes-short, writes-fits}
-use Rattle.build.specs.Writing.{Sealed, writtenOutcome}
+use Rattle.build.specs.Writing.{HoldsOnly, writtenOutcome}
 use Rattle.build.proofs.Shape.{held-bits}
 use Rattle.build.proofs.Fields.{held-length}
 use Rattle.build.proofs.write.Statement.{statement}
@@ -31,9 +31,9 @@ module _ (s : tie.Start) where
   xs = now (s .args .out)
 
   abbrev e : Entry
-  e = held m b (now (s .args .edges))
+  e = entryHeld m b (now (s .args .edges))
 
-  sealed : Sealed m b (now (s .args .edges))
+  sealed : HoldsOnly m b (now (s .args .edges))
   sealed = s .pre .0
 
   few : edgeCount e ≤ 524280

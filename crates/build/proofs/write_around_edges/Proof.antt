@@ -1,15 +1,16 @@
 use denote.Ref.{now}
 use mathlib.Core.Path.{_≡_, ap, ap₂, subst, _∙_}
 use mathlib.Core.List.{List, _++_}
-use Prim.Native.Nat.{ℕ, _+_, _-_, _*_, _/_, _≤_}
+use Prim.Native.Nat.{ℕ, _+_, _-_, _≤_}
 use native.Mathlib.Omega.{arith}
 use lib.ListN.{length, take, drop, length-append}
 use lib.Seq.{drop-drop}
-use Rattle.loes.specs.Bytes.{Bytes, started, front}
+use Rattle.loes.specs.Limits.{headBytes}
+use Rattle.loes.specs.Bytes.{Bytes, front}
 use Rattle.loes.specs.Encode.{encode}
-use Rattle.loes.specs.Read.{edgeBytes, blockBytes, subBlockBytes, start4, endOf}
-use Rattle.loes.specs.Held.{held}
-use Rattle.build.specs.Writing.{Sealed, Shaped, standing}
+use Rattle.loes.specs.Read.{levelBytes, edgeBytes, blockBytes, subBlockBytes, bodyAt, start3, start4, endOf}
+use Rattle.loes.specs.Held.{entryHeld}
+use Rattle.build.specs.Writing.{HoldsOnly, Shaped, standing}
 use Rattle.build.proofs.Front.{part, part-room, behind, length-zs}
 use Rattle.build.proofs.Fields.{shapeFields, edgeFields, shape-length, edge-length, sealed-length, sealed-small, held-length, held-encode}
 use Rattle.build.proofs.Standing.{edges-end}
@@ -34,41 +35,46 @@ module _ (s : tie.Start) where
   room : endOf m b ≤ length xs
   room = s .pre .0
 
-  sealed : Sealed m b l
+  sealed : HoldsOnly m b l
   sealed = s .pre .1
 
   long : length l ≡ edgeBytes b
   long = sealed-length m b l sealed
 
-start-of-4 : (m : ℕ) → start4 m ≡ 15 + 4 * m
+start-of-4 : (m : ℕ) → start4 m ≡ bodyAt start3 + levelBytes m
 unfolding start4
 start-of-4 m = omega arith
 
 -- where the edges stand is known
-module _ (w : tie.After-edges-at) where
+module _ (w : tie.After-bytes-for) where
   abbrev start : tie.Start
-  start = w .before .before .before
+  start = w .before .before .before .before
 
   abbrev at : ℕ
-  at = w .edges-at .result
+  at = w .before .edges-start .result
 
   abbrev len : ℕ
-  len = (b start + 7) / 8
+  len = w .bytes-for .result
+
+  place : at ≡ bodyAt (start4 (m start))
+  place = w .before .edges-start .ensures
+
+  size : len ≡ edgeBytes (b start)
+  size = w .bytes-for .ensures .0
 
   edges-fit : at + len ≤ endOf (m start) (b start)
-  unfolding started
-  edges-fit = omega (arith, w .edges-at .ensures, edges-end (m start) (b start))
+  edges-fit = omega (arith, place, size, edges-end (m start) (b start))
 
   small : at ≤ 1042
-  small = omega (arith, w .edges-at .ensures, start-of-4 (m start), sealed start .holds .narrow)
+  small = omega (arith, place, start-of-4 (m start), sealed start .holds .narrow)
 
   there : take (at + len - at) (drop at (xs start)) ≡ l start
-  unfolding standing started
-  there = let z : at + len - at ≡ len = omega arith in ap₂ (λ k n. take k (drop n (xs start))) z (w .edges-at .ensures)
+  unfolding standing
+  there = let z : at + len - at ≡ edgeBytes (b start) = omega (arith, size) in ap₂ (λ k n. take k (drop n (xs start))) z place
 
 -- the shape is known
 module _ (v : tie.After-level-ends) where
-  abbrev placed : tie.After-edges-at
+  abbrev placed : tie.After-bytes-for
   placed = v .before .before .before .before .before
 
   abbrev s : tie.Start
@@ -83,10 +89,10 @@ module _ (v : tie.After-level-ends) where
   shaped : Shaped (m s) (b s) (l s) ends (v .level-ends .result)
   shaped = subst (λ x. Shaped (m s) (b s) x ends (v .level-ends .result)) (there placed) (v .level-ends .ensures)
 
-  shape-long : length shape ≡ at placed - 3
-  shape-long = omega (arith, shape-length (m s) (v .level-ends .result) ends, placed .edges-at .ensures, start-of-4 (m s))
+  shape-long : length shape ≡ at placed - headBytes
+  shape-long = omega (arith, shape-length (m s) (v .level-ends .result) ends, place placed, start-of-4 (m s))
 
-  whole : shape ++ edgeFields (b s) (l s) ≡ encode (held (m s) (b s) (l s))
+  whole : shape ++ edgeFields (b s) (l s) ≡ encode (entryHeld (m s) (b s) (l s))
   whole = held-encode (m s) (b s) (l s) (sealed s) ends (v .level-ends .result) shaped
 
   fits : length shape + length (edgeFields (b s) (l s)) ≤ length (xs s)
@@ -101,7 +107,7 @@ module _ (p : tie.After-put-shape) where
   zs = p .put-shape .last .0
 
   abbrev n : ℕ
-  n = at (placed levels) - 3
+  n = at (placed levels) - headBytes
 
   abbrev rest : Bytes
   rest = take (length zs - n) (drop n zs)
@@ -109,7 +115,7 @@ module _ (p : tie.After-put-shape) where
   kept : length zs ≡ length (xs (s levels))
   kept = length-zs (shape levels) (edgeFields (b (s levels)) (l (s levels))) (xs (s levels)) zs zs n (shape-long levels) (p .put-shape .ensures) (fits levels)
 
-  rest-room : 3 + edgeBytes (b (s levels)) + 3 + blockBytes (b (s levels)) + 3 + subBlockBytes (b (s levels)) ≤ length rest
+  rest-room : headBytes + edgeBytes (b (s levels)) + headBytes + blockBytes (b (s levels)) + headBytes + subBlockBytes (b (s levels)) ≤ length rest
   rest-room =
       omega (
         arith,
@@ -118,22 +124,22 @@ module _ (p : tie.After-put-shape) where
       )
 
   -- the edges stand behind field 4's head still
-  still : take (edgeBytes (b (s levels))) (drop 3 rest) ≡ l (s levels)
+  still : take (edgeBytes (b (s levels))) (drop headBytes rest) ≡ l (s levels)
   unfolding standing
   still =
-      let d : drop 3 rest ≡ drop (length (shape levels) + 3) (xs (s levels)) =
-      ap (drop 3) (part (shape levels) (edgeFields (b (s levels)) (l (s levels))) (xs (s levels)) zs zs n (shape-long levels) (p .put-shape .ensures) (fits levels)) ∙ drop-drop 3 (length (shape levels)) (xs (s levels)) in
-      let z : length (shape levels) + 3 ≡ start4 (m (s levels)) + 3 = omega (arith, shape-length (m (s levels)) (levels .level-ends .result) (ends levels), start-of-4 (m (s levels))) in
+      let d : drop headBytes rest ≡ drop (bodyAt (length (shape levels))) (xs (s levels)) =
+      ap (drop headBytes) (part (shape levels) (edgeFields (b (s levels)) (l (s levels))) (xs (s levels)) zs zs n (shape-long levels) (p .put-shape .ensures) (fits levels)) ∙ drop-drop headBytes (length (shape levels)) (xs (s levels)) in
+      let z : bodyAt (length (shape levels)) ≡ bodyAt (start4 (m (s levels))) = omega (arith, shape-length (m (s levels)) (levels .level-ends .result) (ends levels), start-of-4 (m (s levels))) in
       ap (take (edgeBytes (b (s levels)))) (d ∙ ap (λ k. drop k (xs (s levels))) z)
 
-edges-at-requires : tie.Need-edges-at-requires
-edges-at-requires c κs = search needs
+edges-start-requires : tie.Need-edges-start-requires
+edges-start-requires c κs = search needs
+
+bytes-for-requires : tie.Need-bytes-for-requires
+bytes-for-requires c κs = c .before .before .before .pre .1 .holds .few
 
 add-end : tie.Need-add-end
-add-end c = search needs
-
-add-end-2 : tie.Need-add-end-2
-add-end-2 c = omega (arith, small c, sealed (start c) .holds .few)
+add-end c = omega (arith, small c, c .bytes-for .ensures .1, sealed (start c) .holds .few)
 
 no-ends-requires : tie.Need-no-ends-requires
 no-ends-requires c κs = search needs
@@ -162,7 +168,7 @@ slice-aggregate-put-shape c = search needs
 put-shape-requires : tie.Need-put-shape-requires
 put-shape-requires c κs =
     let v = c .before .before .before in
-    (omega (arith, fits v, shape-long v, placed v .edges-at .ensures, start-of-4 (m (s v))), sealed (s v) .holds .narrow, shaped v .room)
+    (omega (arith, fits v, shape-long v, place (placed v), start-of-4 (m (s v))), sealed (s v) .holds .narrow, shaped v .room)
 
 sub-field4 : tie.Need-sub-field4
 sub-field4 c = search needs
@@ -201,9 +207,9 @@ pub write-around-edges-spec : {M : Type 1} → statement M
 write-around-edges-spec =
     tie.close
     (tie.spec
-    edges-at-requires
+    edges-start-requires
+    bytes-for-requires
     add-end
-    add-end-2
     no-ends-requires
     sub-level-ends
     part-level-ends-start

@@ -10,8 +10,8 @@ use borrow.Author.Needs.{needs}
 use Rattle.loes.specs.Bytes.{Bytes, front}
 use Rattle.loes.specs.Encode.{encode}
 use Rattle.loes.specs.Read.{edgeBytes, endOf}
-use Rattle.loes.specs.Held.{held}
-use Rattle.build.specs.Writing.{Sealed, standing}
+use Rattle.loes.specs.Held.{entryHeld}
+use Rattle.build.specs.Writing.{HoldsOnly, standing}
 use Rattle.build.proofs.Fields.{sealed-length, held-length}
 use Rattle.build.proofs.Standing.{edges-end, stands, length-put, covered}
 use Rattle.build.proofs.write_fitting.Statement.{statement}
@@ -34,16 +34,16 @@ module _ (s : tie.Start) where
   room : endOf m b ≤ length xs
   room = s .pre .0
 
-  sealed : Sealed m b l
+  sealed : HoldsOnly m b l
   sealed = s .pre .1
 
 -- where the edges go
-module _ (w : tie.After-edges-at) where
+module _ (w : tie.After-edges-start) where
   abbrev start : tie.Start
   start = w .before .before .before .before
 
   abbrev at : ℕ
-  at = w .edges-at .result
+  at = w .edges-start .result
 
   abbrev n : ℕ
   n = at + length (l start) - at
@@ -52,11 +52,11 @@ module _ (w : tie.After-edges-at) where
   size = omega (arith, sealed-length (m start) (b start) (l start) (sealed start))
 
   edges-fit : at + length (l start) ≤ length (xs start)
-  edges-fit = omega (arith, w .edges-at .ensures, edges-end (m start) (b start), size, room start)
+  edges-fit = omega (arith, w .edges-start .ensures, edges-end (m start) (b start), size, room start)
 
 -- the edges are in their place
 module _ (k : tie.After-copy) where
-  abbrev placed : tie.After-edges-at
+  abbrev placed : tie.After-edges-start
   placed = k .before .before
 
   abbrev s : tie.Start
@@ -78,10 +78,10 @@ module _ (k : tie.After-copy) where
   long = ap length copied ∙ omega arith
 
   edges-there : standing (m s) (b s) zs ≡ l s
-  edges-there = stands (m s) (b s) (at placed) (n placed) (xs s) ys (placed .edges-at .ensures) (size placed) long (room s) ∙ copied
+  edges-there = stands (m s) (b s) (at placed) (n placed) (xs s) ys (placed .edges-start .ensures) (size placed) long (room s) ∙ copied
 
-edges-at-requires : tie.Need-edges-at-requires
-edges-at-requires c κs = search needs
+edges-start-requires : tie.Need-edges-start-requires
+edges-start-requires c κs = search needs
 
 add-end : tie.Need-add-end
 add-end c = omega (arith, edges-fit c)
@@ -102,7 +102,7 @@ write-around-edges-requires : tie.Need-write-around-edges-requires
 write-around-edges-requires c κs =
     let k = c .before .before .before in
     let w = placed k in (
-      omega (arith, length-put (m (s k)) (b (s k)) (at w) (n w) (xs (s k)) (ys k) (w .edges-at .ensures) (size w) (long k) (room (s k)), room (s k)),
+      omega (arith, length-put (m (s k)) (b (s k)) (at w) (n w) (xs (s k)) (ys k) (w .edges-start .ensures) (size w) (long k) (room (s k)), room (s k)),
       rw (edges-there k) (sealed (s k)),
       s k .pre .2,
     )
@@ -115,14 +115,14 @@ returns c =
     let a = c .before .before in
     let k = a .before .before .before .before in
     let w = placed k in
-    a .write-around-edges .ensures ∙ ap (λ x. front (encode (held (m (s k)) (b (s k)) x)) (zs k)) (edges-there k)
-    ∙ covered (m (s k)) (b (s k)) (at w) (n w) (xs (s k)) (ys k) (w .edges-at .ensures) (size w) (long k) (room (s k)) (encode (held (m (s k)) (b (s k)) (l (s k)))) (held-length (m (s k)) (b (s k)) (l (s k)) (sealed (s k)))
+    a .write-around-edges .ensures ∙ ap (λ x. front (encode (entryHeld (m (s k)) (b (s k)) x)) (zs k)) (edges-there k)
+    ∙ covered (m (s k)) (b (s k)) (at w) (n w) (xs (s k)) (ys k) (w .edges-start .ensures) (size w) (long k) (room (s k)) (encode (entryHeld (m (s k)) (b (s k)) (l (s k)))) (held-length (m (s k)) (b (s k)) (l (s k)) (sealed (s k)))
 
 pub write-fitting-spec : {M : Type 1} → statement M
 write-fitting-spec =
     tie.close
     (tie.spec
-    edges-at-requires
+    edges-start-requires
     add-end
     sub-copy
     part-copy-start

@@ -1,5 +1,5 @@
-use Rattle.query.specs.declared.Written.{Written}
-use Rattle.query.specs.Answers.{writtenOutcome}
+use Rattle.query.specs.declared.WrittenKey.{WrittenKey}
+use Rattle.query.specs.Answers.{keyOutcome}
 use Rattle.capi.proofs.Codes.{by-case}
 use borrow.Author.Needs.{needs}
 use Rattle.capi.proofs.key_written.Statement.{statement}
@@ -14,16 +14,16 @@ refused-requires c κs = search needs
 enum-known-a-2 : tie.Need-enum-known-a-2
 enum-known-a-2 c = search needs
 
-key-bytes-requires : tie.Need-key-bytes-requires
-key-bytes-requires c κs = search needs
+key-coded-requires : tie.Need-key-coded-requires
+key-coded-requires c κs = search needs
 
 returns : tie.Need-returns
-returns c out = by-case (λ (a : Written). writtenOutcome a out) (c .before .before .a .given .1) (c .refused .ensures)
+returns c out = by-case (λ (a : WrittenKey). keyOutcome a out) (c .before .before .a .given .1) (c .refused .ensures)
 
 returns-2 : tie.Need-returns-2
-returns-2 c out = by-case (λ (a : Written). writtenOutcome a out) (c .before .before .a2 .given .1) (c .key-bytes .ensures)
+returns-2 c out = by-case (λ (a : WrittenKey). keyOutcome a out) (c .before .before .a2 .given .1) (c .key-coded .ensures)
 
 pub key-written-spec : {M : Type 1} → statement M
 key-written-spec =
     tie.close
-    (tie.spec enum-known-a refused-requires enum-known-a-2 key-bytes-requires returns returns-2)
+    (tie.spec enum-known-a refused-requires enum-known-a-2 key-coded-requires returns returns-2)

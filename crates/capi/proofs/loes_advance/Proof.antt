@@ -41,12 +41,12 @@ use denote.Exit.{yes}
 use Rattle.cursor.specs.Steps.{numbers}
 use Rattle.capi.specs.Steps.{moves, stepCall}
 use Rattle.capi.specs.declared.Cursor.{Cursor}
-use Rattle.capi.specs.declared.Moved.{Moved}
+use Rattle.capi.specs.declared.CursorAnswer.{CursorAnswer}
 use Rattle.capi.specs.declared.Answer.{Answer}
 use Rattle.capi.proofs.Cursor as P
 use Rattle.capi.proofs.Cursor.Laws as P′
-use Rattle.capi.proofs.Moved as S
-use Rattle.capi.proofs.Moved.Laws as S′
+use Rattle.capi.proofs.CursorAnswer as S
+use Rattle.capi.proofs.CursorAnswer.Laws as S′
 use Rattle.capi.proofs.Answer as E
 use Rattle.capi.proofs.Answer.Laws as E′
 use Rattle.capi.proofs.advanced as inner
@@ -69,17 +69,17 @@ abbrev evals : Answer → List Val
 evals s = LL.val E.the-type E′.the-laws s ∷ []
 
 -- what the work ensures: of the encoding's bytes, the cursor, the buffer, the result and the buffer at exit
-abbrev Said : List ℕ → Cursor → List ℕ → Moved → List ℕ → Type 0
+abbrev Said : List ℕ → Cursor → List ℕ → CursorAnswer → List ℕ → Type 0
 Said bs h os r zs = moves r zs ≡ stepCall bs (h .state) (numbers (h .offsets)) os
 
 abbrev Inner : {M : Type 1} (𝓤 : URA M) (H : Heap 𝓤) (A : Atoms 𝓤) (at-mem : Memory → SProp 𝓤) (run : Routine → Fun 𝓤) → Contract 𝓤
 Inner 𝓤 H A at-mem run = tripleOf 𝓤 H A inner.signature (inner.spec 𝓤 H A at-mem run)
 
 -- what whoever holds the result knows of its two fields
-placed : (r : Moved) (vs : List Val) → Is S.the-row r vs → Is P.the-row (r .cursor) (pval (r .cursor) ∷ [])
+placed : (r : CursorAnswer) (vs : List Val) → Is S.the-row r vs → Is P.the-row (r .cursor) (pval (r .cursor) ∷ [])
 placed r vs is = LL.owed S.the-type S′.the-laws r vs is .0
 
-answered : (r : Moved) (vs : List Val) → Is S.the-row r vs → Is E.the-row (r .answer) (evals (r .answer))
+answered : (r : CursorAnswer) (vs : List Val) → Is S.the-row r vs → Is E.the-row (r .answer) (evals (r .answer))
 answered r vs is = LL.owed S.the-type S′.the-laws r vs is .1 .0
 
 module _ {M : Type 1} (𝓤 : URA M) (H : Heap 𝓤) (A : Atoms 𝓤) (W : Given 𝓤 H A) (at-mem : Memory → SProp 𝓤) (run : Routine → Fun 𝓤) (κ₀ κ₁ κ₂ : Lft) (q₀ q₁ q₂ : Share) (x : RefT (List ℕ)) (b o : ℕ) (γ : GName) (h : Cursor) (y : RefT (List ℕ)) where
@@ -105,7 +105,7 @@ module _ {M : Type 1} (𝓤 : URA M) (H : Heap 𝓤) (A : Atoms 𝓤) (W : Given
   abbrev Bytes : Fml
   Bytes = ShrSlice (named 0) κ₀ u8 .own x (xv ∷ [])
 
-  exits : (r : Moved) (zs : List ℕ) → Said (x .now) h (y .now) r zs → length zs ≡ length (y .now) → Is E.the-row (r .answer) (evals (r .answer))
+  exits : (r : CursorAnswer) (zs : List ℕ) → Said (x .now) h (y .now) r zs → length zs ≡ length (y .now) → Is E.the-row (r .answer) (evals (r .answer))
       → ent 𝓤 (⋆ 𝓤 H A (‵ (fobs γ (P.the-row .coded .code (r .cursor))) ∷ ‵ (fbor κ₁ (Body (mem P.the-row) b o γ)) ∷ ‵ (flft κ₁ q₁) ∷ (‵ (flft κ₀ q₀) ⊛ (‵ (flft κ₂ q₂) ⊛ ‵ ftrue)) ∷ ‵ (finally u8 (y .name) zs) ∷ ‵ Bytes ∷ [])) (Post (only (evals (r .answer))))
   exits r zs e l is =
       qed W (‵ (fobs γ (P.the-row .coded .code (r .cursor))) ∷ ‵ (fbor κ₁ (Body (mem P.the-row) b o γ)) ∷ ‵ (flft κ₁ q₁) ∷ (‵ (flft κ₀ q₀) ⊛ (‵ (flft κ₂ q₂) ⊛ ‵ ftrue)) ∷ ‵ (finally u8 (y .name) zs) ∷ ‵ Bytes ∷ []) ∵
@@ -143,7 +143,7 @@ module _ {M : Type 1} (𝓤 : URA M) (H : Heap 𝓤) (A : Atoms 𝓤) (W : Given
         use2 W (raw (Inner 𝓤 H A at-mem run .pre to-inner)) asked $
         -- [what the callee asks; what the encoding owns; the cursor's cell; what a Cursor owns; the open borrow; obs; auth; _7; …; _6; …; _5; …; _4; …; _3; …; _2; …; _1; …; _0; …]
         calls-at ! fm (Inner 𝓤 H A at-mem run) known to-inner (and-then ! (load ! (from ! (stop !)) (look ! 19 refl)) (and-then ! (load ! (from ! (stop !)) (look ! 11 refl)) (and-then ! (load ! (from ! (stop !)) (look ! 7 refl)) (no-more !)))) (λ w.
-        use1 W (later (some (λ (r : Moved). ((‵ (flft κ₀ q₀) ⊛ (‵ (flft κ₂ q₂) ⊛ ‵ ftrue)) ⊛ ‵ (S.the-row .own r (w ∷ []))) ⊛ raw (ensured 𝓤 H A inner.ended (inner.clauses 𝓤 H A at-mem run) (κ₀, (κ₂, tt)) (x, (h, (y, tt))) tt r)))) (id⊢ 𝓤 _) $ await ! tt $ pick ! (λ r.
+        use1 W (later (some (λ (r : CursorAnswer). ((‵ (flft κ₀ q₀) ⊛ (‵ (flft κ₂ q₂) ⊛ ‵ ftrue)) ⊛ ‵ (S.the-row .own r (w ∷ []))) ⊛ raw (ensured 𝓤 H A inner.ended (inner.clauses 𝓤 H A at-mem run) (κ₀, (κ₂, tt)) (x, (h, (y, tt))) tt r)))) (id⊢ 𝓤 _) $ await ! tt $ pick ! (λ r.
         split ! $ move ! (1 ∷ []) $ use1 W (some (λ (zs : Unit {0} × (Unit {0} × (List ℕ × Unit {0}))). ‵ (lasts inner.ended (κ₀, (κ₂, tt)) (x, (h, (y, tt))) zs) ⊛ raw (fact 𝓤 (Said (x .now) h (y .now) r (zs .1 .1 .0))))) (id⊢ 𝓤 _) $ pick ! (λ zs.
         split ! $ move ! (1 ∷ []) $ heard ! (Said (x .now) h (y .now) r (zs .1 .1 .0)) (λ e. fsplit ! $ drop ! $ fsplit ! $ drop ! $ fsplit ! $ fsplit ! $ move ! (1 ∷ []) $ feqL ! (λ l.
         move ! (2 ∷ []) $ split ! $ move ! (1 ∷ []) $ peeks ! S.the-row (Is S.the-row) (shows 𝓤 H A S.the-row) r (w ∷ []) (λ is.

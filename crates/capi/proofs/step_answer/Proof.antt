@@ -1,5 +1,5 @@
 use mathlib.Core.Path.{sym, ap, _∙_}
-use Rattle.cursor.specs.declared.Step.{Step}
+use Rattle.cursor.specs.declared.StepAnswer.{StepAnswer}
 use Rattle.cursor.specs.Steps.{stepAnswer}
 use Rattle.capi.specs.Coded.{codeOf}
 use borrow.Author.Needs.{needs}
@@ -15,16 +15,16 @@ refused-requires c κs = search needs
 enum-known-a-2 : tie.Need-enum-known-a-2
 enum-known-a-2 c = search needs
 
-key-bytes-requires : tie.Need-key-bytes-requires
-key-bytes-requires c κs = search needs
+key-coded-requires : tie.Need-key-coded-requires
+key-coded-requires c κs = search needs
 
 returns : tie.Need-returns
-returns c = c .refused .ensures ∙ ap (λ (a : Step). codeOf (stepAnswer a)) (sym (c .before .before .a .given .1))
+returns c = c .refused .ensures ∙ ap (λ (a : StepAnswer). codeOf (stepAnswer a)) (sym (c .before .before .a .given .1))
 
 returns-2 : tie.Need-returns-2
-returns-2 c = c .key-bytes .ensures ∙ ap (λ (a : Step). codeOf (stepAnswer a)) (sym (c .before .before .a2 .given .1))
+returns-2 c = c .key-coded .ensures ∙ ap (λ (a : StepAnswer). codeOf (stepAnswer a)) (sym (c .before .before .a2 .given .1))
 
 pub step-answer-spec : {M : Type 1} → statement M
 step-answer-spec =
     tie.close
-    (tie.spec enum-known-a refused-requires enum-known-a-2 key-bytes-requires returns returns-2)
+    (tie.spec enum-known-a refused-requires enum-known-a-2 key-coded-requires returns returns-2)

@@ -49,13 +49,13 @@ use Rattle.encoding.proofs.Encoding.Laws as N′
 use Rattle.cursor.specs.Steps.{cursorOf, steppedOf}
 use Rattle.cursor.specs.declared.Cursor.{Cursor}
 use Rattle.cursor.specs.declared.Stepped.{Stepped}
-use Rattle.cursor.specs.declared.Step.{Step}
+use Rattle.cursor.specs.declared.StepAnswer.{StepAnswer}
 use Rattle.cursor.proofs.Cursor as P
 use Rattle.cursor.proofs.Cursor.Laws as P′
 use Rattle.cursor.proofs.Stepped as S
 use Rattle.cursor.proofs.Stepped.Laws as S′
-use Rattle.cursor.proofs.Step as E
-use Rattle.cursor.proofs.Step.Laws as E′
+use Rattle.cursor.proofs.StepAnswer as E
+use Rattle.cursor.proofs.StepAnswer.Laws as E′
 use Rattle.cursor.proofs.advanced as inner
 use Rattle.cursor.proofs.advanced.Symbol as inner-def
 use Rattle.cursor.proofs.advanced.Symbol.{name as #cursor·advanced}
@@ -75,7 +75,7 @@ pval h = LL.val P.the-type P′.the-laws h
 abbrev nval : Encoding → Val
 nval n = LL.val N.the-type N′.the-laws n
 
-abbrev evals : Step → List Val
+abbrev evals : StepAnswer → List Val
 evals s = EL.vals E.the-type E′.the-laws s
 
 -- what is asked of the encoding's bytes, the tallies and the encoding's numbers

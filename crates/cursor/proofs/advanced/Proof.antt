@@ -1,12 +1,12 @@
 use mathlib.Core.Path.{ap, _∙_}
-use Rattle.cursor.specs.Steps.{at}
+use Rattle.loes.specs.Cursor.{cursorWith}
 use Rattle.cursor.proofs.Stepping.{by-value}
 use borrow.Author.Needs.{needs}
 use Rattle.cursor.proofs.advanced.Statement.{statement}
 use Rattle.cursor.proofs.advanced.Tie as tie
 
-path-of-requires : tie.Need-path-of-requires
-path-of-requires c κs = search needs
+numbers-of-requires : tie.Need-numbers-of-requires
+numbers-of-requires c κs = search needs
 
 slice-aggregate-step-any : tie.Need-slice-aggregate-step-any
 slice-aggregate-step-any c = search needs
@@ -24,13 +24,13 @@ same-length : tie.Need-same-length
 same-length c = search needs
 
 returns : tie.Need-returns
-returns c = by-value _ _ _ _ _ _ _ _ _ (c .of .ensures ∙ ap (at _) (c .before .offsets-of .ensures)) (c .before .before .before .before .before .before .before .before .path-of .ensures) (c .before .before .before .before .before .step-any .ensures)
+returns c = by-value _ _ _ _ _ _ _ _ _ (c .of .ensures ∙ ap (cursorWith _) (c .before .offsets-of .ensures)) (c .before .before .before .before .before .before .before .before .numbers-of .ensures) (c .before .before .before .before .before .step-any .ensures)
 
 pub advanced-spec : {M : Type 1} → statement M
 advanced-spec =
     tie.close
     (tie.spec
-    path-of-requires
+    numbers-of-requires
     slice-aggregate-step-any
     step-any-requires
     offsets-of-requires

@@ -10,12 +10,12 @@ use Prim.Native.Nat.{_-_, _≤_, _+_}
 use Rattle.loes.specs.Read.{entryIn}
 use Rattle.loes.proofs.Seven.{before-le}
 use Rattle.encoding.proofs.Opened.{opens-valid, opens-room}
-use Rattle.cursor.proofs.Checks.{was-false, Checked, check-first, check-below, check-next, check-fail, check-all}
+use Rattle.cursor.proofs.Checks.{was-false, PathChecked, check-first, check-below, check-next, check-fail, check-all}
 use Rattle.cursor.proofs.is_path.Statement.{statement}
 use Rattle.cursor.proofs.is_path.Tie as tie
 
 abbrev Inv-loop : tie.InvT-loop
-Inv-loop l t e path m r₀ d₀ r d = (d ≤ m) × Checked (edgesOf (entryIn l)) path r d
+Inv-loop l t e path m r₀ d₀ r d = (d ≤ m) × PathChecked (edgesOf (entryIn l)) path r d
 
 abbrev μ-loop : tie.MeasureT-loop
 μ-loop l t e path m r₀ d₀ r d = m - d

@@ -27,8 +27,8 @@ returns c =
     let s = c .before .before .before .before .before .before .before .before .before .before in
     at-last _ (valid s) _ (s .pre .1) _ _ (s .pre .0 .width) (s .pre .0 .bits) _ (c .before .before .before .before .before .turn-level .ensures) _ _ (c .before .before .before .before .if1 .taken) (c .before .before .clear .ensures)
 
-add-if2 : tie.Need-add-if2
-add-if2 c = let s = c .before .before .before .before .before .before in omega (arith, opens-room _ _ (s .pre .0) .narrow)
+bytes-for-requires : tie.Need-bytes-for-requires
+bytes-for-requires c κs = let s = c .before .before .before .before .before .before in omega (arith, opens-room _ _ (s .pre .0) .narrow)
 
 same-length-2 : tie.Need-same-length-2
 same-length-2 c = search needs
@@ -36,23 +36,23 @@ same-length-2 c = search needs
 returns-2 : tie.Need-returns-2
 unfolding keyBytes started
 returns-2 c =
-    let s = c .before .before .before .before .before .before .before in
-    at-short _ (valid s) _ (s .pre .1) _ _ (s .pre .0 .width) (s .pre .0 .bits) _ (c .before .before .turn-level .ensures) (positive _ (c .before .if1 .left)) _ (c .if2 .taken)
+    let s = c .before .before .before .before .before .before .before .before in
+    at-short _ (valid s) _ (s .pre .1) _ _ (s .pre .0 .width) (s .pre .0 .bits) _ (c .before .before .before .turn-level .ensures) (positive _ (c .before .before .if1 .left)) _ (omega (arith, c .before .bytes-for .ensures .0, c .if2 .taken))
 
 sub-move-on : tie.Need-sub-move-on
 sub-move-on c = search needs
 
 move-on-requires : tie.Need-move-on-requires
 move-on-requires c κs =
-    let s = c .before .before .before .before .before .before .before .before in
-    (s .pre .0, at-movable _ (valid s) _ (s .pre .1) _ _ (s .pre .0 .width) (s .pre .0 .bits) _ (c .before .before .before .turn-level .ensures) (positive _ (c .before .before .if1 .left)))
+    let s = c .before .before .before .before .before .before .before .before .before in
+    (s .pre .0, at-movable _ (valid s) _ (s .pre .1) _ _ (s .pre .0 .width) (s .pre .0 .bits) _ (c .before .before .before .before .turn-level .ensures) (positive _ (c .before .before .before .if1 .left)))
 
 write-key-requires : tie.Need-write-key-requires
 unfolding keyBytes started
 write-key-requires c κs =
-    let s = c .before .before .before .before .before .before .before .before .before .before .before .before .before in
+    let s = c .before .before .before .before .before .before .before .before .before .before .before .before .before .before in
     let n = opens-room _ _ (s .pre .0) .narrow in
-    (n, omega (arith, n, c .before .before .before .before .move-on .ensures .size, right-parts _ _ (s .pre .1) .0), c .before .before .before .before .before .before .if2 .left)
+    (n, omega (arith, n, c .before .before .before .before .move-on .ensures .size, right-parts _ _ (s .pre .1) .0), omega (arith, c .before .before .before .before .before .before .before .bytes-for .ensures .0, c .before .before .before .before .before .before .if2 .left))
 
 same-length-3 : tie.Need-same-length-3
 same-length-3 c = search needs
@@ -63,9 +63,10 @@ same-length-4 c = search needs
 returns-3 : tie.Need-returns-3
 unfolding keyBytes started
 returns-3 c =
-    let s = c .before .before .before .before .before .before .before .before .before .before .before .before .before .before .before .before in
+    let s = c .before .before .before .before .before .before .before .before .before .before .before .before .before .before .before .before .before in
+    let b = c .before .before .before .before .before .before .before .before .before .before .bytes-for .ensures .0 in
     let w = c .before .before .write-key .ensures in
-    at-next _ (valid s) _ (s .pre .1) _ _ (s .pre .0 .width) (s .pre .0 .bits) _ (c .before .before .before .before .before .before .before .before .before .before .before .turn-level .ensures) (positive _ (c .before .before .before .before .before .before .before .before .before .before .if1 .left)) _ _ _ _ (c .before .before .before .before .before .before .before .move-on .ensures) (c .before .before .before .before .before .before .before .before .before .if2 .left) (w .0) (w .1)
+    at-next _ (valid s) _ (s .pre .1) _ _ (s .pre .0 .width) (s .pre .0 .bits) _ (c .before .before .before .before .before .before .before .before .before .before .before .before .turn-level .ensures) (positive _ (c .before .before .before .before .before .before .before .before .before .before .before .if1 .left)) _ _ _ _ (c .before .before .before .before .before .before .before .move-on .ensures) (omega (arith, b, c .before .before .before .before .before .before .before .before .before .if2 .left)) (w .0) (w .1)
 
 pub step-at-spec : {M : Type 1} → statement M
 step-at-spec =
@@ -75,7 +76,7 @@ step-at-spec =
     clear-requires
     same-length
     returns
-    add-if2
+    bytes-for-requires
     same-length-2
     returns-2
     sub-move-on

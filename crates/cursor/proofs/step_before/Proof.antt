@@ -20,26 +20,28 @@ some s h = let z = positive _ h in omega (arith, z, s .pre .0 .bits)
 returns : tie.Need-returns
 returns c = let s = c .before .before .before .before .before in before-none _ (opens-valid _ _ (s .pre .0)) _ (s .pre .1) _ (sym (s .pre .0 .bits) ∙ c .if1 .taken)
 
-add-if2 : tie.Need-add-if2
-add-if2 c = let s = c .before .before .before .before .before in omega (arith, opens-room _ _ (s .pre .0) .narrow)
+bytes-for-requires : tie.Need-bytes-for-requires
+bytes-for-requires c κs = let s = c .before .before .before .before .before in omega (arith, opens-room _ _ (s .pre .0) .narrow)
 
 returns-2 : tie.Need-returns-2
 unfolding keyBytes started
-returns-2 c = let s = c .before .before .before .before .before .before in before-short _ (opens-valid _ _ (s .pre .0)) _ (s .pre .1) (some s (c .before .if1 .left)) _ _ (s .pre .0 .width) (c .if2 .taken)
+returns-2 c =
+    let s = c .before .before .before .before .before .before .before in
+    before-short _ (opens-valid _ _ (s .pre .0)) _ (s .pre .1) (some s (c .before .before .if1 .left)) _ _ (s .pre .0 .width) (omega (arith, c .before .bytes-for .ensures .0, c .if2 .taken))
 
 first-path-requires : tie.Need-first-path-requires
 first-path-requires c κs =
-    let s = c .before .before .before .before .before .before .before in
+    let s = c .before .before .before .before .before .before .before .before in
     let z = ap length (s .pre .1) ∙ length-replicate {A = ℕ} 256 0 in
-    (s .pre .0, positive _ (c .before .before .if1 .left), omega (arith, z, opens-room _ _ (s .pre .0) .narrow))
+    (s .pre .0, positive _ (c .before .before .before .if1 .left), omega (arith, z, opens-room _ _ (s .pre .0) .narrow))
 
 write-key-requires : tie.Need-write-key-requires
 unfolding keyBytes started
 write-key-requires c κs =
-    let s = c .before .before .before .before .before .before .before .before .before .before .before .before in
+    let s = c .before .before .before .before .before .before .before .before .before .before .before .before .before in
     let v = opens-valid _ _ (s .pre .0) in
-    let z = path-long _ v 0 (first-some _ v (some s (c .before .before .before .before .before .before .before .if1 .left))) (now (s .args .path)) in
-    (opens-room _ _ (s .pre .0) .narrow, rw (c .before .before .before .before .first-path .ensures) (omega (arith, z, s .pre .0 .width)), c .before .before .before .before .before .before .if2 .left)
+    let z = path-long _ v 0 (first-some _ v (some s (c .before .before .before .before .before .before .before .before .if1 .left))) (now (s .args .path)) in
+    (opens-room _ _ (s .pre .0) .narrow, rw (c .before .before .before .before .first-path .ensures) (omega (arith, z, s .pre .0 .width)), omega (arith, c .before .before .before .before .before .before .before .bytes-for .ensures .0, c .before .before .before .before .before .before .if2 .left))
 
 same-length : tie.Need-same-length
 same-length c = search needs
@@ -50,16 +52,17 @@ same-length-2 c = search needs
 returns-3 : tie.Need-returns-3
 unfolding keyBytes started
 returns-3 c =
-    let s = c .before .before .before .before .before .before .before .before .before .before .before .before .before .before .before in
+    let s = c .before .before .before .before .before .before .before .before .before .before .before .before .before .before .before .before in
+    let b = c .before .before .before .before .before .before .before .before .before .before .bytes-for .ensures .0 in
     let w = c .before .before .write-key .ensures in
-    before-first _ (opens-valid _ _ (s .pre .0)) _ (s .pre .1) (some s (c .before .before .before .before .before .before .before .before .before .before .if1 .left)) _ _ _ _ _ (c .before .before .before .before .before .before .before .first-path .ensures) (s .pre .0 .width) (c .before .before .before .before .before .before .before .before .before .if2 .left) (w .0) (w .1)
+    before-first _ (opens-valid _ _ (s .pre .0)) _ (s .pre .1) (some s (c .before .before .before .before .before .before .before .before .before .before .before .if1 .left)) _ _ _ _ _ (c .before .before .before .before .before .before .before .first-path .ensures) (s .pre .0 .width) (omega (arith, b, c .before .before .before .before .before .before .before .before .before .if2 .left)) (w .0) (w .1)
 
 pub step-before-spec : {M : Type 1} → statement M
 step-before-spec =
     tie.close
     (tie.spec
     returns
-    add-if2
+    bytes-for-requires
     returns-2
     first-path-requires
     write-key-requires

@@ -36,7 +36,7 @@ module _ (b : tie.After-bytes-of Inv-loop μ-loop) where
 
   room : keyBytes (entryIn (now (start test .args .l)) .width) ≤ length (test .loop .out) - test .loop .at
   unfolding keyBytes started
-  room = omega (arith, b .before .before .before .before .before .before .before .before .loop-test .taken, start test .pre .0 .width)
+  room = omega (arith, test .before .bytes-for .ensures .0, b .before .before .before .before .before .before .before .before .loop-test .taken, start test .pre .0 .width)
 
   abbrev step : tie.After-step-right Inv-loop μ-loop
   step = b .before .before .before .before .before
@@ -47,8 +47,8 @@ module _ (b : tie.After-bytes-of Inv-loop μ-loop) where
       (putMid (test .loop .at) (length (test .loop .out) - test .loop .at) (test .loop .out) (step .step-right .last .1 .1 .1 .1 .0)) (test .loop .at + b .bytes-of .result)
   on = walk-more _ _ _ _ _ _ _ (test .loop .inv) valid room (step .step-right .result) _ _ (step .step-right .ensures) _ (b .bytes-of .ensures)
 
-add-t : tie.Need-add-t Inv-loop μ-loop
-add-t c = omega (arith, opens-room _ _ (c .before .before .before .before .pre .0) .narrow)
+bytes-for-requires : tie.Need-bytes-for-requires Inv-loop μ-loop
+bytes-for-requires c κs = omega (arith, opens-room _ _ (c .before .before .before .pre .0) .narrow)
 
 loop-holds : tie.Need-loop-holds Inv-loop μ-loop
 loop-holds c = let s = c .before .before .before .before in walk-start _ _ _ _ (s .pre .1) (s .pre .2)
@@ -99,7 +99,7 @@ same-length-4 c = c .before .loop .inv .size
 
 returns-2 : tie.Need-returns-2 Inv-loop μ-loop
 unfolding keyBytes started
-returns-2 c = let l = c .before in walk-full _ _ _ _ _ _ _ (l .loop .inv) (omega (arith, c .loop-test .left, start l .pre .0 .width))
+returns-2 c = let l = c .before in walk-full _ _ _ _ _ _ _ (l .loop .inv) (omega (arith, l .before .bytes-for .ensures .0, c .loop-test .left, start l .pre .0 .width))
 
 pub steps-on-spec : {M : Type 1} → statement M
 steps-on-spec =
@@ -107,7 +107,7 @@ steps-on-spec =
     (tie.spec
     Inv-loop
     μ-loop
-    add-t
+    bytes-for-requires
     loop-holds
     sub-loop
     sub-step-right

@@ -11,7 +11,7 @@ use Rattle.loes.specs.Read.{entryIn}
 use Rattle.loes.proofs.Tests.{not-false}
 use Rattle.loes.proofs.Numbers.{AllBytes}
 use Rattle.bits.proofs.Counts.{ones-bits-le}
-use Rattle.encoding.specs.Opened.{Room}
+use Rattle.encoding.specs.Opened.{FieldsFit}
 use Rattle.encoding.specs.Agree.{WholeRight, Whole, lastEdges, LastRight, Last}
 use Rattle.encoding.proofs.Agree.{bytes-all, Right, fields-room, whole-of, last-of, count-of, right-of, wrong-same, same-by}
 use borrow.Author.Needs.{needs}
@@ -30,7 +30,7 @@ n-of c = c .before .before .before .before
 abbrev second : tie.After-k → tie.Start
 second c = first (n-of c)
 
-room : (c : tie.Start) → Room (now (c .args .l)) (c .args .e)
+room : (c : tie.Start) → FieldsFit (now (c .args .l)) (c .args .e)
 room c = fields-room (now (c .args .l)) (c .args .e) (c .pre .0)
 
 bytes : (c : tie.After-whole-ones) → AllBytes (now (start c .args .l))

@@ -3,12 +3,13 @@ use mathlib.Core.Path.{_∙_}
 use Prim.Native.Nat.{_+_, _/_, _<_, _≤_}
 use native.Mathlib.Omega.{arith}
 use lib.ListN.{length}
+use Rattle.loes.specs.Limits.{maxBytes}
 use Rattle.bits.proofs.Counts.{bit-from}
 use Rattle.encoding.proofs.Opened.{opens-room, room-at, opens-edge}
 use Rattle.encoding.proofs.edge_at.Statement.{statement}
 use Rattle.encoding.proofs.edge_at.Tie as tie
 
-inside : (c : tie.Start) → (c .args .e .edges + c .args .o .0 / 8 < length (now (c .args .l))) × (length (now (c .args .l)) ≤ 68695)
+inside : (c : tie.Start) → (c .args .e .edges + c .args .o .0 / 8 < length (now (c .args .l))) × (length (now (c .args .l)) ≤ maxBytes)
 inside c =
     let a = c .args in
     let r = opens-room (now (a .l)) (a .e) (c .pre .0) in

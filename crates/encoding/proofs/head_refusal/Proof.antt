@@ -1,14 +1,14 @@
 use denote.Ref.{now}
 use mathlib.Core.Path.{_≡_, sym, _∙_}
-use mathlib.Core.List.{[], _∷_}
+use mathlib.Core.List.{[], _∷_, flatten}
 use mathlib.Core.Option.{Option, none}
-use Rattle.loes.specs.Bytes.{join}
+use Rattle.loes.specs.Limits.{widthBytes, countBytes, levelEntry}
 use Prim.Native.Nat.{ℕ, _+_, _*_, _≤_}
 use native.Mathlib.Omega.{arith}
 use lib.ListN.{length}
 use Rattle.loes.specs.Entry.{wrongWidth, tooManyEdges}
 use Rattle.loes.specs.Refusals.{test, firstOf}
-use Rattle.loes.specs.Read.{levelBytes, widthIn, edgeCountIn, fieldTests, headTests}
+use Rattle.loes.specs.Read.{levelBytes, bodyAt, start2, start3, widthIn, edgeCountIn, fieldTests, headTests}
 use Rattle.loes.proofs.Tests.{lt-yes, lt-no}
 use Rattle.loes.proofs.Reading.{field-fits}
 use Rattle.encoding.specs.Fields.{refusalOf, bodyBytes}
@@ -46,7 +46,7 @@ third c = passed-by _ _ (third-is (c .before)) (c .if5 .left)
 
 -- behind fields 1 to 3
 behind : (c : tie.Else5) (x : Option ℕ) → let l = now (start (c .before .before .before .before .before .before) .args .l) in
-    x ≡ firstOf (join ((test (tooManyEdges (edgeCountIn l)) 5 ∷ []) ∷ [])) → x ≡ firstOf (headTests l)
+    x ≡ firstOf (flatten ((test (tooManyEdges (edgeCountIn l)) 5 ∷ []) ∷ [])) → x ≡ firstOf (headTests l)
 unfolding headTests
 behind c x h =
     let d = c .before .before in
@@ -57,7 +57,7 @@ unfolding edgeCountIn
 many c = rw (wide (c .before .before .before .before .before .before .before)) at (c .number4 .ensures .0)
 
 fits : (c : tie.Else5) → let w = c .before .before .before .before .before .before in
-    12 + 3 + 4 * w .number2 .result ≤ length (now (start w .args .l))
+    bodyAt start3 + levelEntry * w .number2 .result ≤ length (now (start w .args .l))
 fits c =
     let w = c .before .before .before .before .before .before in
     omega (arith, wide w, field-fits 3 (levelBytes (widthIn (now (start w .args .l)))) (now (start w .args .l)) 12 (third c))
@@ -70,7 +70,7 @@ unfolding headTests bodyBytes
 returns c = refuses _ _ _ (c .if1 .taken) (c .before .field-refusal .ensures)
 
 number2-requires : tie.Need-number2-requires
-number2-requires c κs = field-fits 1 2 (now (c .before .before .before .args .l)) 0 (first c)
+number2-requires c κs = field-fits 1 widthBytes (now (c .before .before .before .args .l)) 0 (first c)
 
 returns-2 : tie.Need-returns-2
 unfolding headTests
@@ -80,34 +80,28 @@ returns-3 : tie.Need-returns-3
 unfolding headTests
 returns-3 c = passes _ _ (first (c .before .before .before)) (stops _ _ _ (holds 4 (width-great _ (rw (wide (c .before .before)) at (c .if3 .taken)))))
 
-sub-field-refusal : tie.Need-sub-field-refusal
-sub-field-refusal c = search needs
-
 field-refusal-requires-2 : tie.Need-field-refusal-requires-2
-field-refusal-requires-2 c κs = (omega (arith, field-fits 1 2 (now (start (c .before .before) .args .l)) 0 (first (c .before .before .before))), search needs, search needs, c .if3 .left, search needs)
+field-refusal-requires-2 c κs = (omega (arith, field-fits 1 widthBytes (now (start (c .before .before) .args .l)) 0 (first (c .before .before .before))), search needs, search needs, c .if3 .left, search needs)
 
 returns-4 : tie.Need-returns-4
 unfolding headTests bodyBytes
 returns-4 c = passes _ _ (first (c .before .before .before .before .before)) (passes _ _ (right (c .before .before)) (refuses _ _ _ (c .if4 .taken) (c .before .field-refusal2 .ensures)))
 
-sub-field-refusal-2 : tie.Need-sub-field-refusal-2
-sub-field-refusal-2 c = search needs
-
 field-refusal-requires-3 : tie.Need-field-refusal-requires-3
-field-refusal-requires-3 c κs = (omega (arith, field-fits 2 4 (now (start (c .before .before .before .before) .args .l)) 5 (second c)), search needs, search needs, c .before .before .if3 .left, search needs)
+field-refusal-requires-3 c κs = (omega (arith, field-fits 2 countBytes (now (start (c .before .before .before .before) .args .l)) start2 (second c)), search needs, search needs, c .before .before .if3 .left, search needs)
 
 returns-5 : tie.Need-returns-5
 unfolding headTests
 returns-5 c = passes _ _ (first (c .before .before .before .before .before .before .before)) (passes _ _ (right (c .before .before .before .before)) (passes _ _ (second (c .before .before)) (refuses _ _ _ (c .if5 .taken) (third-is (c .before)))))
 
-sub-number4 : tie.Need-sub-number4
-sub-number4 c = search needs
+sub-last : tie.Need-sub-last
+sub-last c = search needs
 
-mul-number4 : tie.Need-mul-number4
-mul-number4 c = search needs
+mul-last : tie.Need-mul-last
+mul-last c = search needs
 
-add-number4 : tie.Need-add-number4
-add-number4 c = search needs
+add-last : tie.Need-add-last
+add-last c = search needs
 
 number4-requires : tie.Need-number4-requires
 number4-requires c κs = omega (arith, fits c)
@@ -129,15 +123,13 @@ head-refusal-spec =
     number2-requires
     returns-2
     returns-3
-    sub-field-refusal
     field-refusal-requires-2
     returns-4
-    sub-field-refusal-2
     field-refusal-requires-3
     returns-5
-    sub-number4
-    mul-number4
-    add-number4
+    sub-last
+    mul-last
+    add-last
     number4-requires
     returns-6
     returns-7)

@@ -1,6 +1,7 @@
 use mathlib.Core.Path.{sym, ap, _∙_}
 use Prim.Native.Nat.{_*_, _≤_}
 use native.Mathlib.Omega.{arith}
+use Rattle.loes.specs.Limits.{blockEntry, subBlockEntry}
 use Rattle.loes.proofs.Tests.{lt-yes, lt-no}
 use Rattle.encoding.specs.declared.Laid.the-variants.{Length}
 use Rattle.encoding.specs.Fields.{bodyBytes, laidBy}
@@ -11,17 +12,17 @@ use Rattle.encoding.proofs.laid_by.Tie as tie
 mul-t5 : tie.Need-mul-t5
 mul-t5 c = search needs
 
+bytes-for-requires : tie.Need-bytes-for-requires
+bytes-for-requires c κs = search needs
+
 started-by-requires : tie.Need-started-by-requires
 started-by-requires c κs = search needs
-
-started-by-requires-2 : tie.Need-started-by-requires-2
-started-by-requires-2 c κs = search needs
 
 mul-t8 : tie.Need-mul-t8
 mul-t8 c = search needs
 
-started-by-requires-3 : tie.Need-started-by-requires-3
-started-by-requires-3 c κs = search needs
+started-by-requires-2 : tie.Need-started-by-requires-2
+started-by-requires-2 c κs = search needs
 
 mul-t10 : tie.Need-mul-t10
 mul-t10 c = search needs
@@ -42,19 +43,19 @@ returns-4 : tie.Need-returns-4
 unfolding laidBy bodyBytes
 returns-4 c =
     let a = c .before .before .args in
-    ap (λ x. Length (x)) (c .started-by .ensures .0) ∙ sym (ap (λ t. laidBy t (a .width) (a .bits)) (c .before .match .keys4))
+    ap (λ x. Length (x)) (c .bytes-for .ensures .0) ∙ sym (ap (λ t. laidBy t (a .width) (a .bits)) (c .before .match .keys4))
 
 returns-5 : tie.Need-returns-5
 unfolding laidBy bodyBytes
 returns-5 c =
     let a = c .before .before .args in
-    ap (λ x. Length (8 * x)) (c .started-by2 .ensures .0) ∙ sym (ap (λ t. laidBy t (a .width) (a .bits)) (c .before .match .keys5))
+    ap (λ x. Length (blockEntry * x)) (c .started-by .ensures .0) ∙ sym (ap (λ t. laidBy t (a .width) (a .bits)) (c .before .match .keys5))
 
 returns-6 : tie.Need-returns-6
 unfolding laidBy bodyBytes
 returns-6 c =
     let a = c .before .before .args in
-    ap (λ x. Length (2 * x)) (c .started-by3 .ensures .0) ∙ sym (ap (λ t. laidBy t (a .width) (a .bits)) (c .before .match .keys6))
+    ap (λ x. Length (subBlockEntry * x)) (c .started-by2 .ensures .0) ∙ sym (ap (λ t. laidBy t (a .width) (a .bits)) (c .before .match .keys6))
 
 returns-7 : tie.Need-returns-7
 unfolding laidBy
@@ -74,10 +75,10 @@ laid-by-spec =
     tie.close
     (tie.spec
     mul-t5
+    bytes-for-requires
     started-by-requires
-    started-by-requires-2
     mul-t8
-    started-by-requires-3
+    started-by-requires-2
     mul-t10
     returns
     returns-2

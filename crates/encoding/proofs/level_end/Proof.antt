@@ -3,11 +3,13 @@ use mathlib.Core.Path.{_∙_}
 use Prim.Native.Nat.{_+_, _*_, _≤_}
 use native.Mathlib.Omega.{arith}
 use lib.ListN.{length}
+use Rattle.loes.specs.Limits.{levelEntry, maxBytes}
+use Rattle.loes.specs.Read.{bodyAt, start3}
 use Rattle.encoding.proofs.Opened.{opens-room, opens-levels}
 use Rattle.encoding.proofs.level_end.Statement.{statement}
 use Rattle.encoding.proofs.level_end.Tie as tie
 
-inside : (c : tie.Start) → (15 + 4 * c .args .d + 4 ≤ length (now (c .args .l))) × (length (now (c .args .l)) ≤ 68695)
+inside : (c : tie.Start) → (bodyAt start3 + levelEntry * c .args .d + levelEntry ≤ length (now (c .args .l))) × (length (now (c .args .l)) ≤ maxBytes)
 inside c =
     let r = opens-room (now (c .args .l)) (c .args .e) (c .pre .0) in
     (omega (arith, r .levels, c .pre .1), r .bytes)

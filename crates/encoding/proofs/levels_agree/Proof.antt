@@ -2,7 +2,7 @@ use denote.Ref.{now}
 use mathlib.Core.Path.{_≡_, sym, _∙_}
 use Prim.Native.Nat.{ℕ, suc}
 use native.Mathlib.Omega.{arith}
-use Rattle.loes.proofs.Ends.{roots, ends}
+use Rattle.loes.specs.Prefixes.{roots, ends}
 use Rattle.encoding.specs.Opened.{edgesAt}
 use Rattle.encoding.proofs.Opened.{length-edgesAt}
 use Rattle.encoding.proofs.Levels.{ends-none}

@@ -4,9 +4,10 @@ use mathlib.Core.Bool.{Bool, false≢true}
 use mathlib.Core.List.{List}
 use Prim.Native.Nat.{ℕ, suc, _+_, _-_, _*_, _≤_, _<_, min}
 use native.Mathlib.Omega.{arith}
-use Rattle.loes.specs.Bytes.{numberAt}
 use Rattle.loes.specs.Edges.{onesBefore}
-use Rattle.loes.proofs.Ends.{roots, ends, ends-grow}
+use Rattle.loes.specs.Prefixes.{roots, ends}
+use Rattle.loes.specs.Read.{levelAt}
+use Rattle.loes.proofs.Ends.{ends-grow}
 use Rattle.loes.proofs.Seven.{before-le}
 use Rattle.encoding.specs.Opened.{edgesAt}
 use Rattle.encoding.proofs.Opened.{length-edgesAt}
@@ -18,7 +19,7 @@ use Rattle.encoding.proofs.levels_counted.Tie as tie
 abbrev Inv-loop : tie.InvT-loop
 Inv-loop l t e width r from₀ start₀ n₀ d₀ from start n d =
     Level (roots (e .bits)) (edgesAt l e) (e .bits) d from start n
-    × ((i : ℕ) → i < d → numberAt 4 l (15 + 4 * i) ≡ ends (roots (e .bits)) (edgesAt l e) (suc i))
+    × ((i : ℕ) → i < d → levelAt l i ≡ ends (roots (e .bits)) (edgesAt l e) (suc i))
 
 abbrev μ-loop : tie.MeasureT-loop
 μ-loop l t e width r from₀ start₀ n₀ d₀ from start n d = width - d
@@ -115,7 +116,7 @@ loop-again c =
         begins = c .lesser .ensures ∙ ap (λ x. min x (a .e .bits)) (z ∙ ap (ends r (edges d)) y);
         count = o .ones-on .ensures;
       },
-      below-next (λ i. numberAt 4 (now (a .l)) (15 + 4 * i) ≡ ends r (edges d) (suc i)) (h .d) (h .inv .1) (sym (o .before .number4 .ensures .0) ∙ z),
+      below-next (λ i. levelAt (now (a .l)) i ≡ ends r (edges d) (suc i)) (h .d) (h .inv .1) (sym (o .before .number4 .ensures .0) ∙ z),
     )
 
 returns-2 : tie.Need-returns-2 Inv-loop μ-loop

@@ -1,15 +1,15 @@
 use denote.Ref.{now}
 use mathlib.Core.Path.{_≡_, refl, sym, _∙_}
 use mathlib.Core.Bool.{false≢true}
-use Prim.Native.Nat.{ℕ, _+_, _-_, _*_, _<_}
+use Prim.Native.Nat.{ℕ, _-_, _<_}
 use native.Mathlib.Omega.{arith}
-use Rattle.loes.specs.Bytes.{numberAt}
+use Rattle.loes.specs.Read.{levelAt}
 use Rattle.encoding.proofs.Pass.{below-next}
 use Rattle.encoding.proofs.levels_empty.Statement.{statement}
 use Rattle.encoding.proofs.levels_empty.Tie as tie
 
 abbrev Inv-loop : tie.InvT-loop
-Inv-loop l width d₀ d = (i : ℕ) → i < d → numberAt 4 l (15 + 4 * i) ≡ 0
+Inv-loop l width d₀ d = (i : ℕ) → i < d → levelAt l i ≡ 0
 
 abbrev μ-loop : tie.MeasureT-loop
 μ-loop l width d₀ d = width - d
@@ -42,7 +42,7 @@ loop-again c =
     let n = c .before .number4 in
     let h = c .before .before .before .loop in
     let l = now (c .before .before .before .before .before .args .l) in
-    below-next (λ i. numberAt 4 l (15 + 4 * i) ≡ 0) (h .d) (h .inv) (sym (n .ensures .0) ∙ c .if1 .left)
+    below-next (λ i. levelAt l i ≡ 0) (h .d) (h .inv) (sym (n .ensures .0) ∙ c .if1 .left)
 
 returns-2 : tie.Need-returns-2 Inv-loop μ-loop
 returns-2 c = (λ z d h. c .before .loop .inv d (omega arith), λ p. refl)

@@ -1,6 +1,6 @@
 use borrow.Author.Needs.{needs}
+use Rattle.loes.specs.Prefixes.{roots}
 use Rattle.loes.proofs.Tests.{lt-yes, lt-no}
-use Rattle.loes.proofs.Ends.{roots}
 use Rattle.encoding.proofs.roots_of.Statement.{statement}
 use Rattle.encoding.proofs.roots_of.Tie as tie
 

@@ -1,19 +1,18 @@
 use denote.Ref.{now}
 use mathlib.Core.Path.{_≡_}
-use mathlib.Core.List.{[], _∷_}
+use mathlib.Core.List.{[], _∷_, flatten}
 use mathlib.Core.Option.{Option}
-use Prim.Native.Nat.{ℕ, _+_, _-_, _*_, _≤_}
+use Prim.Native.Nat.{ℕ, _-_, _≤_}
 use native.Mathlib.Omega.{arith}
 use lib.ListN.{length}
 use lib.Dec.{ltb}
 use borrow.Author.Needs.{needs}
-use Rattle.loes.specs.Bytes.{join}
+use Rattle.loes.specs.Limits.{headBytes}
 use Rattle.loes.specs.Refusals.{test, firstOf}
 use Rattle.loes.specs.Read.{edgeBytes, blockBytes, subBlockBytes, start4, start5, start6, endOf, fieldTests, tailTests}
 use Rattle.loes.proofs.Tests.{lt-yes, lt-no}
 use Rattle.loes.proofs.Reading.{field-fits}
 use Rattle.encoding.specs.Fields.{refusalOf, bodyBytes}
-use Rattle.loes.proofs.Lent.{end-most}
 use Rattle.encoding.proofs.Fields.{stops, refuses, passes, passed-by, all-passed, holds, clear}
 use Rattle.encoding.proofs.tail_refusal.Statement.{statement}
 use Rattle.encoding.proofs.tail_refusal.Tie as tie
@@ -40,17 +39,17 @@ edgeBits c = c .args .e .bits
 fourth-is : (c : tie.After-field-refusal)
     → FieldIs (c .field-refusal .result) 4 (λ s. edgeBytes (edgeBits s)) (λ s. start4 (width s)) (start c)
 unfolding bodyBytes
-fourth-is c = let z : start c .args .e .edges - 3 ≡ start4 (width (start c)) = omega (arith, start c .pre .0 .edges) in rw z at (c .field-refusal .ensures)
+fourth-is c = let z : start c .args .e .edges - headBytes ≡ start4 (width (start c)) = omega (arith, start c .pre .0 .edges) in rw z at (c .field-refusal .ensures)
 
 fifth-is : (c : tie.After-field-refusal2)
     → FieldIs (c .field-refusal2 .result) 5 (λ s. blockBytes (edgeBits s)) (λ s. start5 (width s) (edgeBits s)) (second c)
 unfolding bodyBytes
-fifth-is c = let z : second c .args .e .blocks - 3 ≡ start5 (width (second c)) (edgeBits (second c)) = omega (arith, second c .pre .0 .blocks) in rw z at (c .field-refusal2 .ensures)
+fifth-is c = let z : second c .args .e .blocks - headBytes ≡ start5 (width (second c)) (edgeBits (second c)) = omega (arith, second c .pre .0 .blocks) in rw z at (c .field-refusal2 .ensures)
 
 sixth-is : (c : tie.After-field-refusal3)
     → FieldIs (c .field-refusal3 .result) 6 (λ s. subBlockBytes (edgeBits s)) (λ s. start6 (width s) (edgeBits s)) (third c)
 unfolding bodyBytes
-sixth-is c = let z : third c .args .e .«sub_blocks» - 3 ≡ start6 (width (third c)) (edgeBits (third c)) = omega (arith, third c .pre .0 .sub-blocks) in rw z at (c .field-refusal3 .ensures)
+sixth-is c = let z : third c .args .e .«sub_blocks» - headBytes ≡ start6 (width (third c)) (edgeBits (third c)) = omega (arith, third c .pre .0 .sub-blocks) in rw z at (c .field-refusal3 .ensures)
 
 -- what begins behind a field that passed lies in the bytes
 fits5 : (c : tie.Else1) → let s = start (c .before) in start5 (width s) (edgeBits s) ≤ length (now (s .args .l))
@@ -103,7 +102,7 @@ returns-3 c =
 
 -- behind the three fields
 behind : (c : tie.Else3) (x : Option ℕ) → let s = third (c .before) in
-    x ≡ firstOf (join ((test (ltb (endOf (width s) (edgeBits s)) (length (now (s .args .l)))) 6 ∷ []) ∷ []))
+    x ≡ firstOf (flatten ((test (ltb (endOf (width s) (edgeBits s)) (length (now (s .args .l)))) 6 ∷ []) ∷ []))
     → x ≡ firstOf (tailTests (width s) (edgeBits s) (now (s .args .l)))
 unfolding tailTests
 behind c x h =
@@ -112,32 +111,18 @@ behind c x h =
     passes _ _ (passed-by _ _ (fourth-is (f .before)) (f .if1 .left))
     (passes _ _ (passed-by _ _ (fifth-is (d .before)) (d .if2 .left)) (passes _ _ (passed-by _ _ (sixth-is (c .before)) (c .if3 .left)) h))
 
--- where the sixth field ends
-end-is : (c : tie.After-started-by) → let s = third (c .before .before) in
-    (s .args .e .«sub_blocks» + 2 * c .started-by .result ≡ endOf (width s) (edgeBits s)) × (endOf (width s) (edgeBits s) ≤ 68695)
-unfolding endOf
-end-is c =
-    let s = third (c .before .before) in
-    (omega (arith, s .pre .0 .sub-blocks, c .started-by .ensures .0), unfold endOf in end-most (width s) (edgeBits s) (s .pre .1) (s .pre .2))
-
-started-by-requires : tie.Need-started-by-requires
-started-by-requires c κs = search needs
-
-mul-if4 : tie.Need-mul-if4
-mul-if4 c = search needs
-
-add-if4 : tie.Need-add-if4
-add-if4 c = omega (arith, end-is (c .before))
+end-of-requires : tie.Need-end-of-requires
+end-of-requires c κs = let p = third (c .before) .pre in (p .0, p .1, p .2)
 
 returns-4 : tie.Need-returns-4
 returns-4 c =
-    let d = c .before .before in
-    behind (d .before) _ (stops _ _ _ (holds 6 (lt-yes _ _ (rw (end-is d .0) at (c .if4 .taken)))))
+    let d = c .before in
+    behind (d .before) _ (stops _ _ _ (holds 6 (lt-yes _ _ (rw (d .end-of .ensures) at (c .if4 .taken)))))
 
 returns-5 : tie.Need-returns-5
 returns-5 c =
-    let d = c .before .before in
-    behind (d .before) _ (passes _ _ (clear 6 (lt-no _ _ (rw (end-is d .0) at (c .if4 .left)))) all-passed)
+    let d = c .before in
+    behind (d .before) _ (passes _ _ (clear 6 (lt-no _ _ (rw (d .end-of .ensures) at (c .if4 .left)))) all-passed)
 
 pub tail-refusal-spec : {M : Type 1} → statement M
 tail-refusal-spec =
@@ -152,8 +137,6 @@ tail-refusal-spec =
     sub-field-refusal-3
     field-refusal-requires-3
     returns-3
-    started-by-requires
-    mul-if4
-    add-if4
+    end-of-requires
     returns-4
     returns-5)

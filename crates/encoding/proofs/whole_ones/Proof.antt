@@ -5,13 +5,14 @@ use Prim.Native.Nat.{ℕ, _+_, _-_, _*_, _/_, _%_, _≤_, _<_, min}
 use native.Mathlib.Omega.{arith}
 use borrow.Author.Needs.{needs}
 use lib.ListN.{length, drop}
+use Rattle.loes.specs.Limits.{maxBytes}
 use Rattle.loes.specs.Bytes.{Bytes, bitsIn, started}
 use Rattle.loes.specs.Edges.{ones}
 use Rattle.loes.proofs.Tests.{not-false}
 use Rattle.bits.specs.Tables.{noneEmpty}
 use Rattle.bits.proofs.Counts.{ones-bits-le}
 use Rattle.encoding.specs.declared.Encoding.{Encoding}
-use Rattle.encoding.specs.Agree.{Tells, EntriesAt, BlockBase, Full, WholeRight}
+use Rattle.encoding.specs.Agree.{Decides, EntriesAt, BlockBase, BytesTallied, WholeRight}
 use Rattle.encoding.proofs.Pass.{Going, Later, based, later-next, going-start, count-le, entries-of, part-wrong, going-next, going-end}
 use Rattle.encoding.proofs.whole_ones.Statement.{statement}
 use Rattle.encoding.proofs.whole_ones.Tie as tie
@@ -29,7 +30,7 @@ few : (c : tie.At-loop Inv-loop μ-loop) → start c .args .e .bits ≤ 524280
 few c = start c .pre .few
 
 -- the edge bytes lie in the encoding
-inside : (c : tie.At-loop Inv-loop μ-loop) → let a = start c .args in (a .e .edges + (a .e .bits + 7) / 8 ≤ length (now (a .l))) × (length (now (a .l)) ≤ 68695)
+inside : (c : tie.At-loop Inv-loop μ-loop) → let a = start c .args in (a .e .edges + (a .e .bits + 7) / 8 ≤ length (now (a .l))) × (length (now (a .l)) ≤ maxBytes)
 unfolding started
 inside c = (start c .pre .edges, start c .pre .bytes)
 
@@ -55,7 +56,7 @@ module _ (c : tie.At-loop Inv-loop μ-loop) (h : 512 * c .loop .j < start c .arg
   base-here : (b : ℕ) → (c .loop .j % 128 ≡ 0 → b ≡ c .loop .n) × ((c .loop .j % 128 ≡ 0 → ⊥) → b ≡ c .loop .base) → BlockBase l e (c .loop .j) b (c .loop .n)
   base-here b q = based l e (c .loop .j) (c .loop .base) (c .loop .n) b (c .loop .inv .2) (c .loop .inv .3) q
 
-  entries-wrong : (r : Bool) → Tells r (EntriesAt l e (c .loop .j) (c .loop .n)) → not r ≡ true → WholeRight l e → ⊥
+  entries-wrong : (r : Bool) → Decides r (EntriesAt l e (c .loop .j) (c .loop .n)) → not r ≡ true → WholeRight l e → ⊥
   entries-wrong r t z w = false≢true (sym (ap not (t .1 (entries-of l e (c .loop .j) (c .loop .n) going h (w .0)))) ∙ z)
 
   -- and it adds up
@@ -63,7 +64,7 @@ module _ (c : tie.At-loop Inv-loop μ-loop) (h : 512 * c .loop .j < start c .arg
     bytes-wrong : (noneEmpty (bitsIn (drop (e .edges + 64 * c .loop .j) l) (8 * size)) ≡ true → ⊥) → WholeRight l e → ⊥
     bytes-wrong = part-wrong l e (c .loop .j) (c .loop .n) going size h u
 
-    next : (k : ℕ) → Part c size k → (r : Bool) → Tells r (EntriesAt l e (c .loop .j) (c .loop .n)) → not r ≡ false → Going l e (c .loop .j + 1) (c .loop .n + k)
+    next : (k : ℕ) → Part c size k → (r : Bool) → Decides r (EntriesAt l e (c .loop .j) (c .loop .n)) → not r ≡ false → Going l e (c .loop .j + 1) (c .loop .n + k)
     next k p r t z = going-next l e (c .loop .j) (c .loop .n) going size h u k p (t .0 (not-false r z))
 
     sum-few : (k : ℕ) → Part c size k → c .loop .n + k ≤ 524280 + 512
@@ -77,14 +78,14 @@ module _ (c : tie.In-loop Inv-loop μ-loop) where
   whole-size : 64 ≡ min 64 (start (c .before) .args .e .bits / 8 - 64 * c .before .loop .j)
   whole-size = omega (arith, c .loop-test .taken)
 
-abbrev turn : tie.After-sub-block-ones Inv-loop μ-loop → tie.In-loop Inv-loop μ-loop
+abbrev turn : tie.After-scan-sub-block Inv-loop μ-loop → tie.In-loop Inv-loop μ-loop
 turn c = c .before .before .before .before
 
-abbrev met : tie.After-known-told Inv-loop μ-loop → tie.After-sub-block-ones Inv-loop μ-loop
+abbrev met : tie.After-known-told Inv-loop μ-loop → tie.After-scan-sub-block Inv-loop μ-loop
 met c = c .before .before .before
 
 part : (c : tie.After-known-told Inv-loop μ-loop) → Part (turn (met c) .before) 64 (c .before .k .given .0 .0)
-part c = subst (Full _ _) (c .before .k .given .1) (met c .sub-block-ones .ensures)
+part c = subst (BytesTallied _ _) (c .before .k .given .1) (met c .scan-sub-block .ensures)
 
 loop-holds : tie.Need-loop-holds Inv-loop μ-loop
 loop-holds c = let a = c .before .before .args in (omega arith, going-start (now (a .l)) (a .e), omega arith, λ z. absurd (z (omega arith)))
@@ -98,14 +99,14 @@ entries-agree-requires c κs = let d = c .before in (start (d .before) .pre, the
 returns : tie.Need-returns Inv-loop μ-loop
 returns c = let d = c .before .before .before in entries-wrong (d .before) (there d) (c .before .entries-agree .result) (c .before .entries-agree .ensures) (c .if1 .taken)
 
-mul-sub-block-ones : tie.Need-mul-sub-block-ones Inv-loop μ-loop
-mul-sub-block-ones c = omega (arith, few (c .before .before .before .before))
+mul-scan-sub-block : tie.Need-mul-scan-sub-block Inv-loop μ-loop
+mul-scan-sub-block c = omega (arith, few (c .before .before .before .before))
 
-add-sub-block-ones : tie.Need-add-sub-block-ones Inv-loop μ-loop
-add-sub-block-ones c = let d = c .before .before .before in omega (arith, there d, inside (d .before))
+add-scan-sub-block : tie.Need-add-scan-sub-block Inv-loop μ-loop
+add-scan-sub-block c = let d = c .before .before .before in omega (arith, there d, inside (d .before))
 
-sub-block-ones-requires : tie.Need-sub-block-ones-requires Inv-loop μ-loop
-sub-block-ones-requires c κs = let d = c .before .before .before in omega (arith, d .loop-test .taken, inside (d .before))
+scan-sub-block-requires : tie.Need-scan-sub-block-requires Inv-loop μ-loop
+scan-sub-block-requires c κs = let d = c .before .before .before in omega (arith, d .loop-test .taken, inside (d .before))
 
 enum-known-k : tie.Need-enum-known-k Inv-loop μ-loop
 enum-known-k c = search needs
@@ -117,7 +118,7 @@ returns-2 : tie.Need-returns-2 Inv-loop μ-loop
 returns-2 c =
     let b = c .before .before in
     let d = turn b in
-    bytes-wrong (d .before) (there d) 64 (whole-size d) (subst (Full _ _) (c .enum-told .given .1) (b .sub-block-ones .ensures))
+    bytes-wrong (d .before) (there d) 64 (whole-size d) (subst (BytesTallied _ _) (c .enum-told .given .1) (b .scan-sub-block .ensures))
 
 add-n : tie.Need-add-n Inv-loop μ-loop
 add-n c = let d = turn (met c) in omega (arith, sum-few (d .before) (there d) 64 (whole-size d) _ (part c))
@@ -170,14 +171,14 @@ entries-agree-requires-2 c κs = let d = c .before in (start (end d) .pre, last-
 returns-4 : tie.Need-returns-4 Inv-loop μ-loop
 returns-4 c = let d = c .before .before .before in entries-wrong (end d) (last-there d) (c .before .entries-agree2 .result) (c .before .entries-agree2 .ensures) (c .if3 .taken)
 
-mul-part-ones : tie.Need-mul-part-ones Inv-loop μ-loop
-mul-part-ones c = let d = c .before .before .before in omega (arith, last-there d, few (end d))
+mul-from : tie.Need-mul-from Inv-loop μ-loop
+mul-from c = let d = c .before .before .before in omega (arith, last-there d, few (end d))
+
+add-from : tie.Need-add-from Inv-loop μ-loop
+add-from c = let d = c .before .before .before in omega (arith, last-there d, inside (end d))
 
 add-part-ones : tie.Need-add-part-ones Inv-loop μ-loop
-add-part-ones c = let d = c .before .before .before in omega (arith, last-there d, inside (end d))
-
-add-part-ones-2 : tie.Need-add-part-ones-2 Inv-loop μ-loop
-add-part-ones-2 c = let d = c .before .before .before .before in omega (arith, inside (end d))
+add-part-ones c = let d = c .before .before .before .before in omega (arith, inside (end d))
 
 part-ones-requires : tie.Need-part-ones-requires Inv-loop μ-loop
 part-ones-requires c κs =
@@ -198,10 +199,10 @@ returns-5 : tie.Need-returns-5 Inv-loop μ-loop
 returns-5 c =
     let b = c .before .before in
     let d = last b in
-    bytes-wrong (end d) (last-there d) (size d) (last-size d) (subst (Full _ _) (c .enum-told2 .given .1) (b .part-ones .ensures))
+    bytes-wrong (end d) (last-there d) (size d) (last-size d) (subst (BytesTallied _ _) (c .enum-told2 .given .1) (b .part-ones .ensures))
 
 rest-is : (c : tie.After-known-told2 Inv-loop μ-loop) → let d = last (c .before .before .before) in Part (end d) (size d) (c .before .rest .given .0 .0)
-rest-is c = subst (Full _ _) (c .before .rest .given .1) (c .before .before .before .part-ones .ensures)
+rest-is c = subst (BytesTallied _ _) (c .before .rest .given .1) (c .before .before .before .part-ones .ensures)
 
 add-ones : tie.Need-add-ones Inv-loop μ-loop
 add-ones c = let d = last (c .before .before .before) in omega (arith, sum-few (end d) (last-there d) (size d) (last-size d) _ (rest-is c))
@@ -225,9 +226,9 @@ whole-ones-spec =
     block-base-requires
     entries-agree-requires
     returns
-    mul-sub-block-ones
-    add-sub-block-ones
-    sub-block-ones-requires
+    mul-scan-sub-block
+    add-scan-sub-block
+    scan-sub-block-requires
     enum-known-k
     enum-told
     returns-2
@@ -239,9 +240,9 @@ whole-ones-spec =
     block-base-requires-2
     entries-agree-requires-2
     returns-4
-    mul-part-ones
+    mul-from
+    add-from
     add-part-ones
-    add-part-ones-2
     part-ones-requires
     enum-known-rest
     enum-told-2

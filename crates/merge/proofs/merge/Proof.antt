@@ -2,8 +2,8 @@ use Prim.Native.Nat.{ℕ, _+_, _-_, _*_, _/_, _≤_, _<_}
 use mathlib.Core.Path.{_≡_, ap, _∙_}
 use lib.Dec.{ltb}
 use Rattle.loes.specs.Bytes.{Bytes, bit}
+use Rattle.loes.specs.Prefixes.{inhabited}
 use Rattle.loes.specs.Held.{Holds}
-use Rattle.loes.proofs.Tree.{inhabited}
 use Rattle.merge.specs.Union.{QueueRoom}
 use Rattle.merge.proofs.Held.{setIn, held-of, even, some-records}
 use Rattle.merge.proofs.Queue.{Done, done-none, done-more, merged-done, end-le, level-room}

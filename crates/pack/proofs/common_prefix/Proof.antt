@@ -1,5 +1,4 @@
 use borrow.Author.Needs.{needs}
-use Prim.Native.Nat.{_+_, _/_}
 use native.Mathlib.Omega.{arith}
 use denote.Ref.{now}
 use Rattle.loes.specs.Bytes.{started}
@@ -8,17 +7,19 @@ use Rattle.pack.proofs.Prefixes.{common-whole, common-past, common-with
 use Rattle.pack.proofs.common_prefix.Statement.{statement}
 use Rattle.pack.proofs.common_prefix.Tie as tie
 
-add-t : tie.Need-add-t
-add-t c = search needs
+bytes-for-requires : tie.Need-bytes-for-requires
+bytes-for-requires c κs = search needs
 
 same-bytes-requires : tie.Need-same-bytes-requires
 unfolding keyBytes started
 same-bytes-requires c κs = search needs
 
 returns : tie.Need-returns
+unfolding started
 returns c =
-    let a = c .before .before .before .before .args in
-    common-whole (a .m) (now (a .x)) (now (a .y)) ((a .m + 7) / 8) (c .before .same-bytes .result) (c .before .same-bytes .ensures) (omega arith)
+    let b = c .before .before .bytes-for in
+    let a = c .before .before .before .before .before .args in
+    common-whole (a .m) (now (a .x)) (now (a .y)) (b .result) (c .before .same-bytes .result) (c .before .same-bytes .ensures) (omega (arith, b .ensures .0))
 
 mul-d : tie.Need-mul-d
 mul-d c = search needs
@@ -38,24 +39,28 @@ add-d : tie.Need-add-d
 add-d c = search needs
 
 returns-2 : tie.Need-returns-2
+unfolding started
 returns-2 c =
     let f = c .before in
     let s = f .before .before .before .before in
-    let a = s .before .before .before .args in
-    common-within (a .m) (now (a .x)) (now (a .y)) ((a .m + 7) / 8) (s .same-bytes .result) (s .same-bytes .ensures) (f .first-difference .result) (f .first-difference .ensures) (omega arith)
+    let b = s .before .bytes-for in
+    let a = s .before .before .before .before .args in
+    common-within (a .m) (now (a .x)) (now (a .y)) (b .result) (s .same-bytes .result) (s .same-bytes .ensures) (f .first-difference .result) (f .first-difference .ensures) (omega (arith, b .ensures .0))
 
 returns-3 : tie.Need-returns-3
+unfolding started
 returns-3 c =
     let f = c .before in
     let s = f .before .before .before .before in
-    let a = s .before .before .before .args in
-    common-past (a .m) (now (a .x)) (now (a .y)) ((a .m + 7) / 8) (s .same-bytes .result) (s .same-bytes .ensures) (f .first-difference .result) (f .first-difference .ensures) (omega arith)
+    let b = s .before .bytes-for in
+    let a = s .before .before .before .before .args in
+    common-past (a .m) (now (a .x)) (now (a .y)) (b .result) (s .same-bytes .result) (s .same-bytes .ensures) (f .first-difference .result) (f .first-difference .ensures) (omega (arith, b .ensures .0))
 
 pub common-prefix-spec : {M : Type 1} → statement M
 common-prefix-spec =
     tie.close
     (tie.spec
-    add-t
+    bytes-for-requires
     same-bytes-requires
     returns
     mul-d

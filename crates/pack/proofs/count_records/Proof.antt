@@ -8,21 +8,21 @@ use denote.Ref.{now}
 use lib.ListN.{length}
 use Rattle.loes.specs.Bytes.{Bytes}
 use Rattle.loes.specs.Refusals.{firstOf}
-use Rattle.pack.specs.declared.Checked.{Checked}
-use Rattle.pack.specs.declared.Checked.the-variants.{Accepted}
+use Rattle.pack.specs.declared.Verdict.{Verdict}
+use Rattle.pack.specs.declared.Verdict.the-variants.{Accepted}
 use Rattle.pack.specs.Rising.{firstNew}
 use Rattle.pack.specs.Batch.{key, testsBelow, KeyChecked}
 use Rattle.pack.proofs.Places.{key-there, few-keys}
 use Rattle.pack.specs.Marking.{running}
 use Rattle.pack.proofs.Sums.{running-zero, noted-le}
-use Rattle.pack.proofs.Turn.{Counted, none-yet, counted-le, counted-more}
+use Rattle.pack.proofs.Turn.{KeysCounted, none-yet, counted-le, counted-more}
 use Rattle.pack.proofs.KeyTests.{none-tested, one-more, first-refused, rising}
 use Rattle.pack.proofs.count_records.Statement.{statement}
 use Rattle.pack.proofs.count_records.Tie as tie
 
 abbrev Inv-loop : tie.InvT-loop
 Inv-loop batch n t m counts₀ i₀ counts i =
-    (i ≤ n) × (length counts ≡ length counts₀) × (firstOf (testsBelow m batch i) ≡ none) × Counted m m (λ (e : ℕ). 0) (key m batch) i (running counts m)
+    (i ≤ n) × (length counts ≡ length counts₀) × (firstOf (testsBelow m batch i) ≡ none) × KeysCounted m m (λ (e : ℕ). 0) (key m batch) i (running counts m)
 
 abbrev μ-loop : tie.MeasureT-loop
 μ-loop batch n t m counts₀ i₀ counts i = n - i
@@ -42,7 +42,7 @@ module _ (w : tie.In-loop Inv-loop μ-loop) where
   passed = w .before .loop .inv .2
 
   -- the key passes with its first new length
-  passes : (r : Checked) (new : ℕ) → KeyChecked (start .args .m) bytes at r → r ≡ Accepted new → (firstOf (testsBelow (start .args .m) bytes (suc at)) ≡ none) × (new ≡ firstNew (key (start .args .m) bytes) at)
+  passes : (r : Verdict) (new : ℕ) → KeyChecked (start .args .m) bytes at r → r ≡ Accepted new → (firstOf (testsBelow (start .args .m) bytes (suc at)) ≡ none) × (new ≡ firstNew (key (start .args .m) bytes) at)
   passes r new e q =
       let z : KeyChecked (start .args .m) bytes at (Accepted new) = subst (KeyChecked (start .args .m) bytes at) q e in
       (one-more (start .args .m) bytes at passed ∙ z .0, z .1)

@@ -6,14 +6,14 @@ use denote.Ref.{now}
 use lib.ListN.{length}
 use Rattle.loes.specs.Bytes.{Bytes, started, packBits}
 use Rattle.loes.specs.Keys.{Key, KeySet}
+use Rattle.loes.specs.Prefixes.{recordsBefore}
 use Rattle.loes.proofs.Bytes.{length-packed}
-use Rattle.loes.proofs.Navigation.{recordsBefore}
 use Rattle.pack.specs.Rising.{setBelow}
 use Rattle.pack.specs.Batch.{key, KeyThere}
 use Rattle.pack.proofs.Places.{key-there, far, key-lent, length-lent}
 use Rattle.pack.proofs.Marked.{markedEdges, length-edges, splitAt, split-same}
 use Rattle.pack.proofs.Pass.{mark-end}
-use Rattle.pack.proofs.Turn.{Counted, none-yet, counted-more, room-mark, marks}
+use Rattle.pack.proofs.Turn.{KeysCounted, none-yet, counted-more, room-mark, marks}
 use Rattle.pack.proofs.Levels.{from-is, new-top}
 use Rattle.pack.proofs.mark_keys.Statement.{statement}
 use Rattle.pack.proofs.mark_keys.Tie as tie
@@ -28,7 +28,7 @@ upTo m n f top i = packBits (markedEdges m m (setBelow f n) (splitAt top (setBel
 abbrev Inv-loop : tie.InvT-loop
 Inv-loop batch n t m top cursors₀ edges₀ masks i₀ cursors edges i =
     (i ≤ n) × (length cursors ≡ length cursors₀) × (length edges ≡ length edges₀)
-    × Counted top m (base m (setBelow (key m batch) n)) (key m batch) i cursors
+    × KeysCounted top m (base m (setBelow (key m batch) n)) (key m batch) i cursors
     × (edges ≡ upTo m n (key m batch) top i)
 
 abbrev μ-loop : tie.MeasureT-loop

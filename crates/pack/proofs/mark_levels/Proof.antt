@@ -5,7 +5,7 @@ use denote.Ref.{now}
 use lib.ListN.{length, getD, length-replicate}
 use Rattle.loes.specs.Bytes.{Bytes, started, packBits}
 use Rattle.loes.specs.Keys.{Key}
-use Rattle.loes.proofs.Navigation.{recordsBefore}
+use Rattle.loes.specs.Prefixes.{recordsBefore}
 use Rattle.pack.specs.Rising.{setBelow}
 use Rattle.pack.specs.Marking.{rowOffset}
 use Rattle.pack.specs.Batch.{key}

@@ -1,19 +1,20 @@
 use denote.Ref.{now}
 use mathlib.Core.Path.{_≡_, sym, ap, ap₂, _∙_}
 use mathlib.Core.List.{[], _∷_}
-use Prim.Native.Nat.{ℕ, _+_, _-_, _/_, _≤_}
+use Prim.Native.Nat.{ℕ, _+_, _-_, _≤_}
 use native.Mathlib.Omega.{arith}
 use lib.ListN.{length}
 use borrow.Rule.Slice.PartMut.{putMid, mid-len}
 use borrow.Author.Tests.{ltb-true, ltb-false}
 use borrow.Author.Needs.{needs}
-use Rattle.loes.specs.Bytes.{Bytes, started, packBits, front}
+use Rattle.loes.specs.Limits.{maxWidth, maxEdges}
+use Rattle.loes.specs.Bytes.{Bytes, packBits, front}
 use Rattle.loes.specs.Entry.{Entry, edgesOf}
 use Rattle.loes.specs.Encode.{encode}
-use Rattle.loes.specs.Read.{edgeBytes, endOf}
-use Rattle.loes.specs.Held.{held}
+use Rattle.loes.specs.Read.{edgeBytes, bodyAt, start4, endOf}
+use Rattle.loes.specs.Held.{entryHeld}
 use Rattle.loes.specs.Model.{wrote, refusal, batchEntry}
-use Rattle.build.specs.Writing.{Sealed, standing, writtenOutcome}
+use Rattle.build.specs.Writing.{HoldsOnly, standing, writtenOutcome}
 use Rattle.build.proofs.Standing.{edges-end, stands, length-put, covered}
 use Rattle.pack.proofs.Written.{batch-small, batch-sealed, batch-held, batch-length, call-short, call-fits}
 use Rattle.pack.proofs.write_planned.Statement.{statement}
@@ -36,13 +37,13 @@ module _ (s : tie.Start) where
   abbrev e : Entry
   e = batchEntry m l
 
-  small : (m ≤ 256) × (b ≤ 524280)
+  small : (m ≤ maxWidth) × (b ≤ maxEdges)
   small = batch-small m b l (s .pre .0 .accepted) (s .pre .1)
 
-  sealed : Sealed m b (packBits (edgesOf e))
+  sealed : HoldsOnly m b (packBits (edgesOf e))
   sealed = batch-sealed m b l (s .pre .0 .accepted) (s .pre .1)
 
-  same : held m b (packBits (edgesOf e)) ≡ e
+  same : entryHeld m b (packBits (edgesOf e)) ≡ e
   same = batch-held m b l (s .pre .0 .accepted) (s .pre .1)
 
   long : length (encode e) ≡ endOf m b
@@ -57,27 +58,34 @@ module _ (c : tie.Else1) where
   room = ltb-false (length (xs start)) (endOf (m start) (b start)) (sym (c .before .too-short .ensures) ∙ c .if1 .left)
 
 -- where the edges go
-module _ (w : tie.After-edges-at) where
+module _ (w : tie.After-bytes-for) where
+  abbrev fits : tie.Else1
+  fits = w .before .before
+
   abbrev s : tie.Start
-  s = start (w .before)
+  s = start fits
 
   abbrev at : ℕ
-  at = w .edges-at .result
+  at = w .before .edges-start .result
+
+  abbrev end : ℕ
+  end = at + w .bytes-for .result
 
   abbrev n : ℕ
-  n = at + (b s + 7) / 8 - at
+  n = end - at
 
   size : n ≡ edgeBytes (b s)
-  unfolding started
-  size = omega arith
+  size = omega (arith, w .bytes-for .ensures .0)
 
-  edges-fit : at + (b s + 7) / 8 ≤ length (xs s)
-  unfolding started
-  edges-fit = omega (arith, w .edges-at .ensures, edges-end (m s) (b s), room (w .before))
+  place : at ≡ bodyAt (start4 (m s))
+  place = w .before .edges-start .ensures
+
+  edges-fit : end ≤ length (xs s)
+  edges-fit = omega (arith, place, w .bytes-for .ensures .0, edges-end (m s) (b s), room fits)
 
 -- the edges are in their place
 module _ (k : tie.After-fill) where
-  abbrev placed : tie.After-edges-at
+  abbrev placed : tie.After-bytes-for
   placed = k .before .before .before
 
   abbrev ys : Bytes
@@ -87,10 +95,10 @@ module _ (k : tie.After-fill) where
   zs = putMid (at placed) (n placed) (xs (s placed)) ys
 
   long-edges : length ys ≡ n placed
-  long-edges = k .fill .kept .1 .1 .1 .0 ∙ mid-len (at placed) (at placed + (b (s placed) + 7) / 8) (xs (s placed)) (edges-fit placed)
+  long-edges = k .fill .kept .1 .1 .1 .0 ∙ mid-len (at placed) (end placed) (xs (s placed)) (edges-fit placed)
 
   edges-there : standing (m (s placed)) (b (s placed)) zs ≡ packBits (edgesOf (e (s placed)))
-  edges-there = stands (m (s placed)) (b (s placed)) (at placed) (n placed) (xs (s placed)) ys (placed .edges-at .ensures) (size placed) long-edges (room (placed .before)) ∙ k .fill .ensures
+  edges-there = stands (m (s placed)) (b (s placed)) (at placed) (n placed) (xs (s placed)) ys (place placed) (size placed) long-edges (room (fits placed)) ∙ k .fill .ensures
 
 too-short-requires : tie.Need-too-short-requires
 too-short-requires c κs = small (c .before .before .before)
@@ -101,14 +109,14 @@ returns c =
     let s = c .before .before .before .before .before in
     sym (call-short (m s) (b s) (l s) (s .pre .0 .accepted) (s .pre .1) (xs s) (ltb-true (length (xs s)) (endOf (m s) (b s)) (sym (c .before .too-short .ensures) ∙ c .if1 .taken)))
 
-edges-at-requires : tie.Need-edges-at-requires
-edges-at-requires c κs = small (start c) .0
+edges-start-requires : tie.Need-edges-start-requires
+edges-start-requires c κs = small (start c) .0
+
+bytes-for-requires : tie.Need-bytes-for-requires
+bytes-for-requires c κs = small (start (c .before)) .1
 
 add-end : tie.Need-add-end
-add-end c = record { fits = omega (arith, small (s c) .1) }
-
-add-end-2 : tie.Need-add-end-2
-add-end-2 c = omega (arith, edges-fit c)
+add-end c = omega (arith, edges-fit c)
 
 sub-fill : tie.Need-sub-fill
 sub-fill c = search needs
@@ -125,7 +133,7 @@ fill-requires c κs =
     record {
       ready = s w .pre .0;
       long = s w .pre .2;
-      room = rw (← s w .pre .1) (mid-len (at w) (at w + (b (s w) + 7) / 8) (xs (s w)) (edges-fit w) ∙ size w);
+      room = rw (← s w .pre .1) (mid-len (at w) (end w) (xs (s w)) (edges-fit w) ∙ size w);
     }
 
 tallies-requires : tie.Need-tallies-requires
@@ -139,7 +147,7 @@ write-around-edges-requires c κs =
     let k = c .before .before .before .before .before .before .before in
     let w = placed k in
     let s = s w in (
-      omega (arith, length-put (m s) (b s) (at w) (n w) (xs s) (ys k) (w .edges-at .ensures) (size w) (long-edges k) (room (w .before)), room (w .before)),
+      omega (arith, length-put (m s) (b s) (at w) (n w) (xs s) (ys k) (place w) (size w) (long-edges k) (room (fits w)), room (fits w)),
       rw (edges-there k) (sealed s),
       c .before .before .tallies .ensures,
     )
@@ -162,9 +170,9 @@ returns-2 c =
     let k = a .before .before .before .before .before .before .before .before in
     let w = placed k in
     let s = s w in
-    let r = room (w .before) in
-    let done = a .write-around-edges .ensures ∙ ap (λ x. front (encode (held (m s) (b s) x)) (zs k)) (edges-there k) ∙ ap (λ x. front (encode x) (zs k)) (same s)
-    ∙ covered (m s) (b s) (at w) (n w) (xs s) (ys k) (w .edges-at .ensures) (size w) (long-edges k) r (encode (e s)) (long s) in
+    let r = room (fits w) in
+    let done = a .write-around-edges .ensures ∙ ap (λ x. front (encode (entryHeld (m s) (b s) x)) (zs k)) (edges-there k) ∙ ap (λ x. front (encode x) (zs k)) (same s)
+    ∙ covered (m s) (b s) (at w) (n w) (xs s) (ys k) (place w) (size w) (long-edges k) r (encode (e s)) (long s) in
     ap₂ (λ i x. record { answer = wrote (i ∷ []); buffers = x ∷ [] }) (c .length-of .ensures) done
     ∙ sym (call-fits (m s) (b s) (l s) (s .pre .0 .accepted) (s .pre .1) (xs s) r)
 
@@ -174,9 +182,9 @@ write-planned-spec =
     (tie.spec
     too-short-requires
     returns
-    edges-at-requires
+    edges-start-requires
+    bytes-for-requires
     add-end
-    add-end-2
     sub-fill
     part-fill-start
     part-fill-end

@@ -52,13 +52,13 @@ use Rattle.encoding.proofs.Encoding.Laws as N′
 use Rattle.cursor.specs.Steps.{cursorOf, advancedOf}
 use Rattle.cursor.specs.declared.Cursor.{Cursor}
 use Rattle.cursor.specs.declared.Stepped.{Stepped}
-use Rattle.cursor.specs.declared.Step.{Step}
+use Rattle.cursor.specs.declared.StepAnswer.{StepAnswer}
 use Rattle.cursor.proofs.Cursor as P
 use Rattle.cursor.proofs.Cursor.Laws as P′
 use Rattle.cursor.proofs.Stepped as S
 use Rattle.cursor.proofs.Stepped.Laws as S′
-use Rattle.cursor.proofs.Step as E
-use Rattle.cursor.proofs.Step.Laws as E′
+use Rattle.cursor.proofs.StepAnswer as E
+use Rattle.cursor.proofs.StepAnswer.Laws as E′
 use Rattle.cursor.proofs.advance as inner
 use Rattle.cursor.proofs.advance.Symbol as inner-def
 use Rattle.cursor.proofs.advance.Symbol.{name as #cursor·advance}
@@ -83,7 +83,7 @@ abbrev Asked : List ℕ → List ℕ → Encoding → Type 0
 Asked bs ts n = Opens bs n × Tallies ts
 
 -- what the step ensures: of the encoding's bytes, the cursor, the buffer, the answer, and the cursor and the buffer at exit
-abbrev Said : List ℕ → Cursor → List ℕ → Step → Cursor → List ℕ → Type 0
+abbrev Said : List ℕ → Cursor → List ℕ → StepAnswer → Cursor → List ℕ → Type 0
 Said bs h os r z zs = advancedOf r zs z ≡ spec.advance (entryIn bs) (cursorOf h) os
 
 abbrev Inner : {M : Type 1} (𝓤 : URA M) (H : Heap 𝓤) (A : Atoms 𝓤) (at-mem : Memory → SProp 𝓤) (run : Routine → Fun 𝓤) → Contract 𝓤
@@ -134,13 +134,13 @@ module _ {M : Type 1} (𝓤 : URA M) (H : Heap 𝓤) (A : Atoms 𝓤) (W : Given
   Counts = ShrSlice (named 1) κ₁ u8 .own t (tv ∷ [])
 
   -- the result, and its machine value: the cursor that comes back, and the answer as it was returned
-  abbrev res : Step → Cursor → Stepped
+  abbrev res : StepAnswer → Cursor → Stepped
   res r z = record { cursor = z; answer = r }
 
   abbrev mach : Cursor → Val → Val
   mach z w = vstruct (vcons (pval z) (vcons w vnil))
 
-  exits : Is N.the-row n (nval n ∷ []) → (r : Step) (z : Cursor) (zs : List ℕ) (w : Val) → Said (x .now) h (y .now) r z zs → length zs ≡ length (y .now)
+  exits : Is N.the-row n (nval n ∷ []) → (r : StepAnswer) (z : Cursor) (zs : List ℕ) (w : Val) → Said (x .now) h (y .now) r z zs → length zs ≡ length (y .now)
       → ent 𝓤 (⋆ 𝓤 H A (‵ (S.the-row .own (res r z) (mach z w ∷ [])) ∷ (‵ (flft κ₂ q₂) ⊛ ‵ ftrue) ∷ ‵ (flft κ₁ q₁) ∷ ‵ (flft κ₀ q₀) ∷ ‵ (finally u8 (y .name) zs) ∷ ‵ Bytes ∷ ‵ Counts ∷ ‵ (P.the-row .own h (pval h ∷ [])) ∷ [])) (Post (mach z w))
   exits nis r z zs w e l =
       qed W (‵ (S.the-row .own (res r z) (mach z w ∷ [])) ∷ (‵ (flft κ₂ q₂) ⊛ ‵ ftrue) ∷ ‵ (flft κ₁ q₁) ∷ ‵ (flft κ₀ q₀) ∷ ‵ (finally u8 (y .name) zs) ∷ ‵ Bytes ∷ ‵ Counts ∷ ‵ (P.the-row .own h (pval h ∷ [])) ∷ []) ∵
@@ -162,7 +162,7 @@ module _ {M : Type 1} (𝓤 : URA M) (H : Heap 𝓤) (A : Atoms 𝓤) (W : Given
   asked b α δ pre = qed W ((‵ (flft κ₀ q₀) ⊛ (‵ (flft κ₁ q₁) ⊛ (‵ (flft (α ∷ []) fullShare) ⊛ (‵ (flft κ₂ q₂) ⊛ ‵ ftrue)))) ∷ ‵ (Owned b α δ) ∷ []) ∵ says ! pre $ frame ! $ done !
 
   -- what the result's two fields own, at their machine values
-  abbrev had : Step → Cursor → List Val × (List Val × Unit {0}) → Fml
+  abbrev had : StepAnswer → Cursor → List Val × (List Val × Unit {0}) → Fml
   had r z vss = fsep (P.the-row .own z (vss .0)) (fsep (E.the-row .own r (vss .1 .0)) ftrue)
 
   module _ (C : Calls 𝓤 H) (Λ : Loops 𝓤 H) (fm : FmC 𝓤 H (W .laws) C) (known : Triple 𝓤 (C #cursor·advance) (Inner 𝓤 H A at-mem run)) where
@@ -191,7 +191,7 @@ module _ {M : Type 1} (𝓤 : URA M) (H : Heap 𝓤) (A : Atoms 𝓤) (W : Given
         use2 W (raw (Inner 𝓤 H A at-mem run .pre (to-inner l₆ α δ))) (asked l₆ α δ pre) $
         -- [what the callee asks; what the encoding owns; what the tallies own; the lender's part; the cursor; _11; …; _10; …; _9; …; _8; …; _7; …; the end of _6; _5; …; .. _0; …]
         calls-at ! fm (Inner 𝓤 H A at-mem run) known (to-inner l₆ α δ) (and-then ! (load ! (from ! (stop !)) (look ! 24 refl)) (and-then ! (load ! (from ! (stop !)) (look ! 22 refl)) (and-then ! (load ! (from ! (stop !)) (look ! 20 refl)) (and-then ! (load ! (from ! (stop !)) (look ! 11 refl)) (and-then ! (load ! (from ! (stop !)) (look ! 7 refl)) (no-more !)))))) (λ w.
-        use1 W (later (some (λ (r : Step). ((‵ (flft κ₀ q₀) ⊛ (‵ (flft κ₁ q₁) ⊛ (‵ (flft (α ∷ []) fullShare) ⊛ (‵ (flft κ₂ q₂) ⊛ ‵ ftrue)))) ⊛ ‵ (E.the-row .own r (w ∷ []))) ⊛ raw (ensured 𝓤 H A inner.ended (inner.clauses 𝓤 H A at-mem run) (κ₀, (κ₁, (α ∷ [], (κ₂, tt)))) (x, (t, (n, (lent l₆ δ, (y, tt))))) tt r)))) (id⊢ 𝓤 _) $ await ! tt $ pick ! (λ r.
+        use1 W (later (some (λ (r : StepAnswer). ((‵ (flft κ₀ q₀) ⊛ (‵ (flft κ₁ q₁) ⊛ (‵ (flft (α ∷ []) fullShare) ⊛ (‵ (flft κ₂ q₂) ⊛ ‵ ftrue)))) ⊛ ‵ (E.the-row .own r (w ∷ []))) ⊛ raw (ensured 𝓤 H A inner.ended (inner.clauses 𝓤 H A at-mem run) (κ₀, (κ₁, (α ∷ [], (κ₂, tt)))) (x, (t, (n, (lent l₆ δ, (y, tt))))) tt r)))) (id⊢ 𝓤 _) $ await ! tt $ pick ! (λ r.
         split ! $ move ! (1 ∷ []) $ use1 W (some (λ (zs : Unit {0} × (Unit {0} × (Unit {0} × (Cursor × (List ℕ × Unit {0}))))). ‵ (lasts inner.ended (κ₀, (κ₁, (α ∷ [], (κ₂, tt)))) (x, (t, (n, (lent l₆ δ, (y, tt))))) zs) ⊛ raw (fact 𝓤 (Said (x .now) h (y .now) r (zs .1 .1 .1 .0) (zs .1 .1 .1 .1 .0))))) (id⊢ 𝓤 _) $ pick ! (λ zs.
         split ! $ move ! (1 ∷ []) $ heard ! (Said (x .now) h (y .now) r (zs .1 .1 .1 .0) (zs .1 .1 .1 .1 .0)) (λ e. fsplit ! $ drop ! $ fsplit ! $ drop ! $ fsplit ! $ drop ! $ fsplit ! $ move ! (1 ∷ []) $ fsplit ! $ fsplit ! $ move ! (1 ∷ []) $ feqL ! (λ l.
         move ! (3 ∷ []) $ split ! $ move ! (1 ∷ []) $ peeks ! E.the-row (Is E.the-row) (shows 𝓤 H A E.the-row) r (w ∷ []) (λ is.

@@ -4,15 +4,15 @@ use native.Mathlib.Omega.{arith}
 use denote.Ref.{now}
 use lib.ListN.{getD}
 use Rattle.loes.specs.Bytes.{byteOf}
+use Rattle.loes.specs.Cursor.{keyOfPath}
 use Rattle.loes.proofs.Tree.{bit-le}
-use Rattle.query.specs.Paths.{pathKey}
 use mathlib.Core.Bool.{false}
 use Rattle.query.proofs.Writing.{upTo, byte-none, byte-more, byte-all, byte-small, byte-lt}
 use Rattle.query.proofs.part_byte.Statement.{statement}
 use Rattle.query.proofs.part_byte.Tie as tie
 
 abbrev Inv-loop : tie.InvT-loop
-Inv-loop offsets m j v₀ e₀ v e = (e ≤ 8) × (v ≡ upTo (pathKey offsets m) j e)
+Inv-loop offsets m j v₀ e₀ v e = (e ≤ 8) × (v ≡ upTo (keyOfPath offsets m) j e)
 
 abbrev μ-loop : tie.MeasureT-loop
 μ-loop offsets m j v₀ e₀ v e = 8 - e
@@ -24,9 +24,9 @@ small : (c : tie.After-key-bit Inv-loop μ-loop) → c .before .before .loop .v 
 small c =
     let l = c .before .before in
     let a = first l .args in
-    omega (arith, l .loop .inv .1, byte-small (pathKey (now (a .offsets)) (a .m)) (a .j) (l .loop .e) (l .loop .inv .0))
+    omega (arith, l .loop .inv .1, byte-small (keyOfPath (now (a .offsets)) (a .m)) (a .j) (l .loop .e) (l .loop .inv .0))
 
-whole : (c : tie.After-loop Inv-loop μ-loop) → c .before .loop .v ≡ byteOf (pathKey (now (first (c .before) .args .offsets)) (first (c .before) .args .m)) (first (c .before) .args .j)
+whole : (c : tie.After-loop Inv-loop μ-loop) → c .before .loop .v ≡ byteOf (keyOfPath (now (first (c .before) .args .offsets)) (first (c .before) .args .m)) (first (c .before) .args .j)
 whole c =
     let l = c .before in
     byte-all _ _ _ _ (l .loop .inv .1) (omega (arith, l .loop .inv .0, c .loop-test .left))
@@ -47,7 +47,7 @@ mul-v : tie.Need-mul-v Inv-loop μ-loop
 mul-v c = omega (arith, small c)
 
 add-v : tie.Need-add-v Inv-loop μ-loop
-add-v c = let b = bit-le (getD (pathKey (now (first (c .before .before) .args .offsets)) (first (c .before .before) .args .m)) (8 * first (c .before .before) .args .j + c .before .before .loop .e) false) in omega (arith, small c, c .key-bit .ensures, b)
+add-v c = let b = bit-le (getD (keyOfPath (now (first (c .before .before) .args .offsets)) (first (c .before .before) .args .m)) (8 * first (c .before .before) .args .j + c .before .before .loop .e) false) in omega (arith, small c, c .key-bit .ensures, b)
 
 add-e : tie.Need-add-e Inv-loop μ-loop
 add-e c = omega arith
@@ -59,7 +59,7 @@ loop-again : tie.Need-loop-again Inv-loop μ-loop
 loop-again c = (omega arith, byte-more _ _ _ _ _ (c .before .before .loop .inv .1) (c .key-bit .ensures))
 
 cast-result : tie.Need-cast-result Inv-loop μ-loop
-cast-result c = omega (arith, whole c, byte-lt (pathKey (now (first (c .before) .args .offsets)) (first (c .before) .args .m)) (first (c .before) .args .j))
+cast-result c = omega (arith, whole c, byte-lt (keyOfPath (now (first (c .before) .args .offsets)) (first (c .before) .args .m)) (first (c .before) .args .j))
 
 returns : tie.Need-returns Inv-loop μ-loop
 returns c = whole c

@@ -1,25 +1,25 @@
 use lib.ListN.{length-set}
 use mathlib.Core.Path.{_≡_, refl, _∙_}
-use Prim.Native.Nat.{_≤_, _<_, _-_, _+_, _/_}
+use Prim.Native.Nat.{_≤_, _<_, _-_}
 use native.Mathlib.Omega.{arith}
 use denote.Ref.{now}
 use lib.ListN.{length, drop}
 use mathlib.Core.List.{_++_}
 use Rattle.loes.specs.Bytes.{tabulate, byteOf, started}
 use Rattle.loes.specs.Entry.{keyBytes}
-use Rattle.query.specs.Paths.{pathKey}
+use Rattle.loes.specs.Cursor.{keyOfPath}
 use Rattle.query.proofs.Writing.{written, none-written, all-written}
 use Rattle.query.proofs.write_key.Statement.{statement}
 use Rattle.query.proofs.write_key.Tie as tie
 
 abbrev Inv-loop : tie.InvT-loop
-Inv-loop offsets m out₀ t j₀ out j = (j ≤ t) × ((length out ≡ length out₀) × (out ≡ tabulate (byteOf (pathKey offsets m)) j ++ drop j out₀))
+Inv-loop offsets m out₀ t j₀ out j = (j ≤ t) × ((length out ≡ length out₀) × (out ≡ tabulate (byteOf (keyOfPath offsets m)) j ++ drop j out₀))
 
 abbrev μ-loop : tie.MeasureT-loop
 μ-loop offsets m out₀ t j₀ out j = t - j
 
-add-t : tie.Need-add-t Inv-loop μ-loop
-add-t c = omega arith
+bytes-for-requires : tie.Need-bytes-for-requires Inv-loop μ-loop
+bytes-for-requires c κs = omega arith
 
 loop-holds : tie.Need-loop-holds Inv-loop μ-loop
 loop-holds c = (omega arith, (refl, none-written _ _))
@@ -28,12 +28,13 @@ key-byte-requires : tie.Need-key-byte-requires Inv-loop μ-loop
 key-byte-requires c κs = omega arith
 
 room : (c : tie.After-key-byte Inv-loop μ-loop) → c .before .before .loop .j < length (c .before .before .loop .out)
-unfolding keyBytes started
+unfolding keyBytes
 room c =
     let l = c .before .before in
-    let s = l .before .before .before in
-    let z : (s .args .m + 7) / 8 ≤ length (now (s .args .out)) = s .pre .2 in
-    omega (arith, z, l .loop .inv .1 .0, c .before .loop-test .taken)
+    let b = l .before .bytes-for .ensures .0 in
+    let s = l .before .before .before .before in
+    let z : started 8 (s .args .m) ≤ length (now (s .args .out)) = s .pre .2 in
+    omega (arith, z, b, l .loop .inv .1 .0, c .before .loop-test .taken)
 
 slice-write-out : tie.Need-slice-write-out Inv-loop μ-loop
 slice-write-out c = room c
@@ -51,8 +52,8 @@ same-length : tie.Need-same-length Inv-loop μ-loop
 same-length c = c .before .loop .inv .1 .0
 
 returns : tie.Need-returns Inv-loop μ-loop
-unfolding keyBytes started
-returns c = (refl, all-written _ _ _ _ (c .before .loop .j) (c .before .loop .inv .1 .1) (omega (arith, c .before .loop .inv .0, c .loop-test .left)))
+unfolding keyBytes
+returns c = let b = c .before .before .bytes-for .ensures .0 in (b, all-written _ _ _ _ (c .before .loop .j) (c .before .loop .inv .1 .1) (omega (arith, b, c .before .loop .inv .0, c .loop-test .left)))
 
 pub write-key-spec : {M : Type 1} → statement M
 write-key-spec =
@@ -60,7 +61,7 @@ write-key-spec =
     (tie.spec
     Inv-loop
     μ-loop
-    add-t
+    bytes-for-requires
     loop-holds
     key-byte-requires
     slice-write-out

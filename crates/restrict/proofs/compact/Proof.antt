@@ -3,7 +3,7 @@ use mathlib.Core.Path.{_≡_}
 use lib.ListN.{length}
 use denote.Ref.{now}
 use Rattle.restrict.specs.Restriction.{Compacted}
-use Rattle.restrict.proofs.Compacting.{compact-none, compact-more, compact-block, compact-count, compact-less, filter-mono}
+use Rattle.restrict.proofs.Compacting.{compact-none, compact-more, compact-block, compact-count, compact-less, those-mono}
 use borrow.Author.Needs.{needs}
 use native.Mathlib.Omega.{arith}
 use Rattle.restrict.proofs.compact.Statement.{statement}
@@ -76,7 +76,7 @@ push-requires c κs =
     let l = x .before .before .before .before in
     let s = start l in
     let v = l .loop .inv .0 in (
-      omega (arith, compact-count v, filter-mono (now (s .args .q)) (l .loop .i) (s .args .r .0) (l .loop .inv .1), v .size, s .pre .0 .2),
+      omega (arith, compact-count v, those-mono (now (s .args .q)) (l .loop .i) (s .args .r .0) (l .loop .inv .1), v .size, s .pre .0 .2),
       x .record-at .ensures .1,
       omega (arith, compact-less v, s .pre .0 .1, l .loop .inv .1),
     )

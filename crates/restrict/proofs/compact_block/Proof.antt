@@ -3,8 +3,8 @@ use mathlib.Core.List.{_++_}
 use lib.ListN.{getD}
 use Prim.Native.Nat.{_+_}
 use denote.Ref.{now}
-use Rattle.loes.specs.Keys.{filter}
-use Rattle.loes.proofs.Lists.{filter-append}
+use Rattle.loes.specs.Keys.{those}
+use Rattle.loes.proofs.Lists.{those-append}
 use Rattle.records.specs.Records.{hasEdge, recordsTo}
 use Rattle.records.specs.Numbers.{recordsOf}
 use Rattle.restrict.proofs.Compacting.{four-bytes}
@@ -63,8 +63,8 @@ returns c =
     let e =
     u .run-and .ensures .0
     ∙ ap₂ (λ x y. x ++ y) (a .bytes-run .ensures .0) (b .bytes-run2 .ensures .0)
-    ∙ sym (filter-append hasEdge (recordsOf 4 (getD q j 0) ++ recordsOf 4 (getD q (j + 1) 0)) (recordsOf 4 (getD q (j + 2) 0) ++ recordsOf 4 (getD q (j + 3) 0)))
-    ∙ ap (filter hasEdge) (sym (four-bytes q j)) in
+    ∙ sym (those-append hasEdge (recordsOf 4 (getD q j 0) ++ recordsOf 4 (getD q (j + 1) 0)) (recordsOf 4 (getD q (j + 2) 0) ++ recordsOf 4 (getD q (j + 3) 0)))
+    ∙ ap (those hasEdge) (sym (four-bytes q j)) in
     record { records = g .append .ensures .records ∙ ap (λ t. recordsTo (now (s .args .out)) (s .args .k .0) ++ t) e; size = g .append .ensures .size }
 
 pub compact-block-spec : {M : Type 1} → statement M

@@ -12,20 +12,20 @@ use borrow.Author.Needs.{needs}
 use Rattle.restrict.proofs.mark_byte.Statement.{statement}
 use Rattle.restrict.proofs.mark_byte.Tie as tie
 
-abbrev startOf : tie.After-edges-in → tie.Start
+abbrev startOf : tie.After-count-edges → tie.Start
 startOf u = u .before .before .before .before .before
 
-high : (u : tie.After-edges-in) → u .edges-in .result ≡ childCount (recordsOf 2 (startOf u .args .x / 16))
-high u = u .edges-in .ensures .0 ∙ count-low (startOf u .args .x / 16) (let s = startOf u in omega arith)
+high : (u : tie.After-count-edges) → u .count-edges .result ≡ childCount (recordsOf 2 (startOf u .args .x / 16))
+high u = u .count-edges .ensures .0 ∙ count-low (startOf u .args .x / 16) (let s = startOf u in omega arith)
 
-small : (u : tie.After-edges-in) → u .edges-in .result ≤ 4
+small : (u : tie.After-count-edges) → u .count-edges .result ≤ 4
 small u = omega (arith, high u, count-half (startOf u .args .x / 16))
 
 window-requires : tie.Need-window-requires
 window-requires c κs = search needs
 
-edges-in-requires : tie.Need-edges-in-requires
-edges-in-requires c κs = search needs
+count-edges-requires : tie.Need-count-edges-requires
+count-edges-requires c κs = search needs
 
 wide-requires : tie.Need-wide-requires
 wide-requires c κs = search needs
@@ -65,7 +65,7 @@ returns c =
     let w = s .args .w in
     let d = s .args .d .0 in
     let z : d + 0 ≡ d = omega arith in
-    let n = u .edges-in .result in
+    let n = u .count-edges .result in
     let ea : recordsOf 2 (a .mark-half .result) ≡ maskedAt (λ m. keptBy w (recordAt q m)) d (recordsOf 2 (s .args .x / 16)) =
     rw z at (rw (x .wide .ensures .0) at (half-ok q w (d + 0) (x .wide .result) (a .mark-half .result) (g .four-in .result) (g .four-in .ensures .0 ∙ window-at q d 0 (v .window .result) (v .window .ensures) (omega arith)) (a .mark-half .ensures .0))) in
     let eb : recordsOf 2 (c .mark-half2 .result) ≡ maskedAt (λ m. keptBy w (recordAt q m)) (d + n) (recordsOf 2 (s .args .x % 16)) =
@@ -79,7 +79,7 @@ mark-byte-spec =
     tie.close
     (tie.spec
     window-requires
-    edges-in-requires
+    count-edges-requires
     wide-requires
     four-in-requires
     mark-half-requires

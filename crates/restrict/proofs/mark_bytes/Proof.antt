@@ -41,7 +41,7 @@ read t =
 abbrev blockOf : tie.Then1 Inv-loop μ-loop → tie.At-loop Inv-loop μ-loop
 blockOf d = d .before .before .before .before .before
 
-room : (d : tie.Then1 Inv-loop μ-loop) → MarkRoom (start (blockOf d) .args .w) (start (blockOf d) .args .r .0) (blockOf d .loop .i) (d .before .before .edges-in .result) (blockOf d .loop .c) (length (blockOf d .loop .q))
+room : (d : tie.Then1 Inv-loop μ-loop) → MarkRoom (start (blockOf d) .args .w) (start (blockOf d) .args .r .0) (blockOf d .loop .i) (d .before .before .count-edges .result) (blockOf d .loop .c) (length (blockOf d .loop .q))
 room d = d .before .has-mark .ensures (d .if1 .taken)
 
 place : (d : tie.Then1 Inv-loop μ-loop) → (blockOf d .loop .i - 1) / 4 < length (blockOf d .loop .q)
@@ -64,8 +64,8 @@ slice-read-y c =
     let i = c .before in
     omega (arith, start (i .before) .pre .0, i .before .loop .inv .low, i .before .loop .inv .size, i .loop-test .taken)
 
-edges-in-requires : tie.Need-edges-in-requires Inv-loop μ-loop
-edges-in-requires c κs = start (c .before .before) .pre .1 .1
+count-edges-requires : tie.Need-count-edges-requires Inv-loop μ-loop
+count-edges-requires c κs = start (c .before .before) .pre .1 .1
 
 has-mark-requires : tie.Need-has-mark-requires Inv-loop μ-loop
 has-mark-requires c κs = search needs
@@ -82,7 +82,7 @@ mark-byte-requires c κs =
     let l = blockOf d in
     let s = start l in
     let m = room d in (
-      (test-small (c .test-at .result) (s .args .w) (ltb (l .loop .c - d .before .before .edges-in .result) (s .args .r .0)) (c .test-at .ensures) (m .flag .1), m .queue, omega (arith, mark-le (s .pre .0 .2) (l .loop .inv), s .pre .0)),
+      (test-small (c .test-at .result) (s .args .w) (ltb (l .loop .c - d .before .before .count-edges .result) (s .args .r .0)) (c .test-at .ensures) (m .flag .1), m .queue, omega (arith, mark-le (s .pre .0 .2) (l .loop .inv), s .pre .0)),
       s .pre .1,
     )
 
@@ -109,8 +109,8 @@ loop-again c =
     let i = k .before .before in
     let l = i .before in
     let s = start l in
-    marked-byte (s .pre .0 .2) (l .loop .q) (l .loop .i) (l .loop .c) (k .edges-in .result) (getD (l .loop .q) ((l .loop .i - 1) / 4) 0) (t .test-at .result) (c .mark-byte .result)
-    (i .loop-test .taken) refl (l .loop .inv) (room d) (k .edges-in .ensures .0) (place d) (t .test-at .ensures) (c .mark-byte .ensures .0)
+    marked-byte (s .pre .0 .2) (l .loop .q) (l .loop .i) (l .loop .c) (k .count-edges .result) (getD (l .loop .q) ((l .loop .i - 1) / 4) 0) (t .test-at .result) (c .mark-byte .result)
+    (i .loop-test .taken) refl (l .loop .inv) (room d) (k .count-edges .ensures .0) (place d) (t .test-at .ensures) (c .mark-byte .ensures .0)
 
 record-at-requires : tie.Need-record-at-requires Inv-loop μ-loop
 record-at-requires c κs =
@@ -168,7 +168,7 @@ mark-bytes-spec =
     loop-holds
     sub-j
     slice-read-y
-    edges-in-requires
+    count-edges-requires
     has-mark-requires
     sub-mark-byte
     test-at-requires
