@@ -23,7 +23,7 @@
  *     also where the length is 0, and what it points to is there, as long as the length says. What
  *     is lent as `const` is only read; what is lent for output shares no byte with anything else
  *     lent to the same call. Two encodings may be the same bytes.
- *   - What a call works with is on the stack: allow it 384 KiB (measured: a join 336,408 bytes at
+ *   - What a call works with is on the stack: allow it 384 KiB (measured: a join 336,296 bytes at
  *     most, every other call less than 8 KiB).
  *
  * Link with target/staticlib/libcapi.a, made by `rt staticlib capi`.
