@@ -19,7 +19,7 @@ rust: target/staticlib/libcapi.a target/bin/show
 
 # what the library rests on is proved first: rt check takes two crates at a time, rt staticlib one
 target/staticlib/libcapi.a target/bin/show &: $(shell find crates -name '*.rt' -o -name '*.antt') crates.txt
-	rt check pack join show
+	rt check weights show
 	rt staticlib capi
 
 # the same for longer, with more and larger cases
@@ -38,7 +38,7 @@ beside: target/staticlib/libcapi.a
 	$(CC) -O2 -Iinclude -o target/beside/beside rust/benches/beside.c -ldl
 	target/beside/beside $${LOES_REPS:-9} target/beside/before.so target/beside/now.so
 
-# what each inner function asks of its callers; a call of document 01 is not among them
+# what each inner function asks of its callers; no call is among them
 requires:
 	@awk 'FNR == 1 { split(FILENAME, path, "/"); name = "" } \
 	    /(^| )fn [a-z]/ { match($$0, /fn [a-z_0-9]+/); name = /pub / ? path[2] "::" substr($$0, RSTART + 3, RLENGTH - 3) : "" } \

@@ -6,24 +6,28 @@
  * by their bytes. An encoding is a set of keys of one width in at most LOES_MAX_BYTES bytes; one
  * set has exactly one encoding.
  *
+ * Weights of keys stand in a list beside an encoding, as many entries as it has members: entry i is
+ * the weight of the key with member index i.
+ *
  * Conventions, for every call:
  *
  *   - Any content and any length is legal. Nothing is trusted: an encoding is checked whole before
- *     it is used, and keys, indexes, offsets, cursors and output buffers are tested.
+ *     it is used, and keys, indexes, offsets, cursors, lists, sums and outputs are tested.
  *   - A refused call answers with the number of the first refusal that holds, in the order of the
- *     call, and changes nothing: every lent byte and every offset keeps its value.
- *   - An accepted result stands at the front of the output buffer; the bytes behind it keep their
- *     values.
+ *     call, and changes nothing: every lent byte, every entry and every offset keeps its value.
+ *   - An accepted result stands at the front of its output; the bytes or entries behind it keep
+ *     their values.
  *   - No call allocates, keeps a pointer or has state of its own; every call may be made from
  *     several threads at once.
  *
  * Asked of the caller, as C cannot say it otherwise:
  *
- *   - Byte strings are lent as a pointer and a length, cursors as a pointer. A pointer is never null,
- *     also where the length is 0, and what it points to is there, as long as the length says. What
- *     is lent as `const` is only read; what is lent for output shares no byte with anything else
- *     lent to the same call. Two encodings may be the same bytes.
- *   - What a call works with is on the stack: allow it 384 KiB (measured: a join 336,296 bytes at
+ *   - Byte strings and lists are lent as a pointer and a length, cursors as a pointer. A list's length
+ *     counts its entries. A pointer is never null, also where the length is 0, and what it points to
+ *     is there, as long as the length says. What is lent as `const` is only read; what is lent for
+ *     output or to be changed shares no byte with anything else lent to the same call. Two encodings
+ *     may be the same bytes, and two lists the same entries.
+ *   - What a call works with is on the stack: allow it 384 KiB (measured: a join 336,440 bytes at
  *     most, every other call less than 8 KiB).
  *
  * Link with target/staticlib/libcapi.a, made by `rt staticlib capi`.
@@ -53,11 +57,11 @@ typedef enum loes_refusal {
     LOES_TRUNCATED = 1,       /* fewer than 3 bytes remain for a field's tag and length, or fewer than its length says */
     LOES_WRONG_TAG = 2,       /* a tag outside 1 to 6, or out of its turn */
     LOES_WRONG_LENGTH = 3,    /* a field length other than the one laid down */
-    LOES_BAD_WIDTH = 4,       /* width 0 or above 256; also the caller of loes_pack */
+    LOES_BAD_WIDTH = 4,       /* width 0 or above 256; also whoever packs */
     LOES_TOO_LARGE = 5,       /* more than 524,280 edge bits; also whoever packs or joins to such a result */
     LOES_TRAILING_BYTES = 6,  /* bytes after the sixth field */
     LOES_NOT_AN_ENCODING = 7, /* well-formed fields that are the encoding of no set */
-    /* whoever asks a question */
+    /* whoever asks a question, or posts */
     LOES_BAD_KEY = 8,         /* a key of another length than the width's, or with an unused bit set */
     LOES_OUT_OF_RANGE = 9,    /* a member index not below the count, or an edge offset not below the edge bits */
     /* whoever sent a batch */
@@ -67,8 +71,11 @@ typedef enum loes_refusal {
     /* whoever joins encodings */
     LOES_TWO_WIDTHS = 13,     /* two widths */
     /* whoever lends memory */
-    LOES_SHORT_BUFFER = 14,   /* an output buffer shorter than the accepted result */
-    LOES_BAD_CURSOR = 15      /* a cursor that is neither before, nor after, nor the path of a member, or has an unused offset other than 0 */
+    LOES_SHORT_BUFFER = 14,   /* an output buffer or an output list shorter than the accepted result */
+    LOES_BAD_CURSOR = 15,     /* a cursor that is neither before, nor after, nor the path of a member, or has an unused offset other than 0 */
+    /* whoever keeps weights */
+    LOES_WRONG_LIST = 16,     /* a list that is not as long as its encoding has members */
+    LOES_OVERFLOW = 17        /* a sum that leaves 32 signed bits */
 } loes_refusal;
 
 /* The states of a cursor. */
@@ -160,6 +167,37 @@ loes_answer loes_rank(const uint8_t *encoding, size_t length, loes_edge_offset o
  *         ...;
  */
 loes_answer loes_advance(const uint8_t *encoding, size_t length, loes_cursor *cursor, uint8_t *out, size_t room);
+
+/* ---- Weights ---- */
+
+/* Adds the amount to the key's entry: found, with value 1; not found if the key is absent, and then
+ * nothing changes. Refusals, after those of opening: 16, 8, and 17 unless the key is absent. */
+loes_answer loes_post(const uint8_t *encoding, size_t length, int32_t *weights, size_t weights_length,
+                      const uint8_t *key, size_t key_length, int32_t amount);
+
+/* The others build as their namesakes do, and write the new encoding's list to the front of `weights`:
+ * as many entries as it has members, which loes_open tells as `count`. Room enough is, for a pack, one
+ * entry for each key of the batch, for a union both lists' lengths together, for a difference the
+ * first's. 14 is for either output. */
+
+/* loes_pack, and a zero for each member. Refusals: as loes_pack. */
+loes_answer loes_pack_weighted(uint64_t width, const uint8_t *batch, size_t length, uint8_t *out, size_t room,
+                               int32_t *weights, size_t weights_room);
+
+/* loes_union; the weight of a key in both sets is the sum of its two, any other key keeps its own.
+ * Refusals: those of opening the first, of opening the second, 13, 16, 5, 14, 17. */
+loes_answer loes_union_weighted(const uint8_t *first, size_t first_length,
+                                const int32_t *first_weights, size_t first_weights_length,
+                                const uint8_t *second, size_t second_length,
+                                const int32_t *second_weights, size_t second_weights_length,
+                                uint8_t *out, size_t room, int32_t *weights, size_t weights_room);
+
+/* loes_difference; each key keeps its weight, and the second set has no list. Refusals: those of
+ * opening the first, of opening the second, 13, 16, 5, 14. */
+loes_answer loes_difference_weighted(const uint8_t *first, size_t first_length,
+                                     const int32_t *first_weights, size_t first_weights_length,
+                                     const uint8_t *second, size_t second_length,
+                                     uint8_t *out, size_t room, int32_t *weights, size_t weights_room);
 
 #ifdef __cplusplus
 }

@@ -1,12 +1,14 @@
 //! The library against the same algorithms in plain Rust, and against what one would use instead: a sorted array, `BTreeSet`,
-//! `HashSet`. All in one run, on the same keys; the least of LOES_REPS repetitions (default 9). Output buffers are made before
-//! the clock starts and not cleared between repetitions. Prints markdown.
+//! `HashSet`; for keys with weights a sorted array of pairs, `BTreeMap`, `HashMap`. All in one run, on the same keys; the least
+//! of LOES_REPS repetitions (default 9). Output buffers and lists are made before the clock starts and not cleared between
+//! repetitions. Prints markdown.
 //!
 //! `cargo bench`, or `cargo bench --no-default-features` for everything but the library.
 
 mod plain_rust;
 
-use std::collections::{BTreeSet, HashSet};
+use std::cmp::Ordering;
+use std::collections::{BTreeMap, BTreeSet, HashMap, HashSet};
 use std::hint::black_box;
 use std::process::Command;
 use std::time::Instant;
@@ -19,7 +21,10 @@ fn main() {
         return;
     }
     println!(
-        "Times in ns: pack, union and difference for each key of either operand, step, next and iteration for each key, the others for each call."
+        "Times in ns: pack, union and difference, also weighted, for each key of either operand, step, next and iteration for each key, the others for each call."
+    );
+    println!(
+        "A row with less: what a join with lists takes more than the same without, measured in turns; a dash where the join without takes more than {NOISY} ns a key, as so little is noise there. Pairs, BTreeMap and HashMap stand beside calls with lists."
     );
     println!("Memory in bytes for each key. Ratio: library to plain Rust.");
     // widths up to the limit of 524,280 edge bits
@@ -34,6 +39,8 @@ fn main() {
     }
     table(clustered_keys::<4>(96, 256), "clustered").print();
     table(clustered_keys::<8>(100, 500), "clustered").print();
+    // many, so that a processor does not learn by heart what is at random
+    memberships(&clustered_keys::<4>(500, 256));
     println!("\n## Growth with the width\n");
     growth(&tables);
     println!("\n## Growth with the number of keys, width 32\n");
@@ -58,25 +65,34 @@ fn least<R>(things: usize, mut call: impl FnMut() -> R) -> f64 {
     times.fold(f64::MAX, f64::min) / things as f64
 }
 
-/// The same of two calls, taking turns.
-#[cfg(feature = "linked")]
-fn in_turns<R, S>(things: usize, mut one: impl FnMut() -> R, mut other: impl FnMut() -> S) -> (f64, f64) {
-    let times = (0..repetitions()).map(|_| (nanoseconds(&mut one), nanoseconds(&mut other)));
-    let (x, y) = times.fold((f64::MAX, f64::MAX), |(x, y), (a, b)| (x.min(a), y.min(b)));
-    (x / things as f64, y / things as f64)
+/// What the library takes, if it is linked, and plain Rust.
+type Times = (Option<f64>, Option<f64>);
+
+/// Such times of several pairs of calls, all taking turns.
+macro_rules! compare_all {
+    ($things:expr, $($library:expr, $plain:expr);+) => {{
+        let mut least = [[f64::MAX; 2]; [$(stringify!($plain)),+].len()];
+        for _ in 0..repetitions() {
+            let mut pairs = least.iter_mut();
+            $(
+                let pair = pairs.next().unwrap();
+                #[cfg(feature = "linked")]
+                {
+                    pair[0] = nanoseconds($library).min(pair[0]);
+                }
+                pair[1] = nanoseconds($plain).min(pair[1]);
+            )+
+        }
+        let each = |time: f64| time / $things as f64;
+        least.map(|[library, plain]| (cfg!(feature = "linked").then_some(each(library)), Some(each(plain))))
+    }};
 }
 
-/// The library, if it is linked, and plain Rust.
+/// Of one pair.
 macro_rules! compare {
-    ($things:expr, $library:expr, $plain:expr) => {{
-        #[cfg(feature = "linked")]
-        let (library, plain) = in_turns($things, $library, $plain);
-        #[cfg(feature = "linked")]
-        let library = Some(library);
-        #[cfg(not(feature = "linked"))]
-        let (library, plain) = (None, least($things, $plain));
-        (library, Some(plain))
-    }};
+    ($things:expr, $library:expr, $plain:expr) => {
+        compare_all!($things, $library, $plain)[0]
+    };
 }
 
 /// Each is asked for.
@@ -213,12 +229,33 @@ fn join<const T: usize>(a: &[[u8; T]], b: &[[u8; T]], keep: impl Fn(bool, bool) 
     out
 }
 
+/// Two parts of the keys, which share a third of them and have them all together: a key whose place has kind 0 is not in the first
+/// part, one of kind 1 not in the second.
+fn parts<const T: usize>(keys: &[[u8; T]], kind: impl Fn(usize) -> usize) -> [Vec<[u8; T]>; 2] {
+    [0, 1].map(|without| keys.iter().enumerate().filter(|(i, _)| kind(*i) != without).map(|(_, key)| *key).collect())
+}
+
+/// The kinds in turn, which a processor learns.
+fn in_turn(place: usize) -> usize {
+    place % 3
+}
+
+fn at_random(place: usize) -> usize {
+    Rng(place as u64).next() as usize % 3
+}
+
+fn packed<const T: usize>(keys: &[[u8; T]]) -> Vec<u8> {
+    let mut out = vec![0u8; 68_695];
+    let length = plain_rust::pack(8 * T as u64, &keys.concat(), &mut out).expect("the keys are within the limits");
+    out.truncate(length);
+    out
+}
+
 fn table<const T: usize>(keys: Vec<[u8; T]>, shape: &'static str) -> Table {
     let (width, n) = (8 * T, keys.len());
     let batch: Vec<u8> = keys.iter().flatten().copied().collect();
     let mut out = vec![0u8; 68_695];
-    let length = plain_rust::pack(width as u64, &batch, &mut out).expect("the keys are within the limits");
-    let bytes = out[..length].to_vec();
+    let bytes = packed(&keys);
     let opened = plain_rust::open(&bytes).unwrap();
     #[cfg(feature = "linked")]
     let encoding = {
@@ -227,18 +264,8 @@ fn table<const T: usize>(keys: Vec<[u8; T]>, shape: &'static str) -> Table {
     };
     let tree: BTreeSet<[u8; T]> = keys.iter().copied().collect();
     let hash: HashSet<[u8; T]> = keys.iter().copied().collect();
-    // two sets that share a third of the keys, and have them all together
-    let part = |without: usize| -> Vec<[u8; T]> {
-        keys.iter().enumerate().filter(|(i, _)| i % 3 != without).map(|(_, key)| *key).collect()
-    };
-    let (a, b) = (part(0), part(1));
-    let packed = |keys: &[[u8; T]]| {
-        let mut out = vec![0u8; 68_695];
-        let length = plain_rust::pack(width as u64, &keys.concat(), &mut out).unwrap();
-        out.truncate(length);
-        out
-    };
-    let (pa, pb) = (packed(&a), packed(&b));
+    let [a, b] = parts(&keys, in_turn);
+    let joins = Joins::measure(&a, &b, n);
     let (ta, tb): (BTreeSet<_>, BTreeSet<_>) = (a.iter().copied().collect(), b.iter().copied().collect());
     let (ha, hb): (HashSet<_>, HashSet<_>) = (a.iter().copied().collect(), b.iter().copied().collect());
     // half of the questions are for members
@@ -267,7 +294,7 @@ fn table<const T: usize>(keys: Vec<[u8; T]>, shape: &'static str) -> Table {
     );
     row(
         "union",
-        compare!(n, || loes::union(&pa, &pb, &mut room), || plain_rust::union(&pa, &pb, &mut out)),
+        joins.union,
         [
             Some(least(n, || join(&a, &b, |_, _| true))),
             Some(least(n, || ta.union(&tb).copied().collect::<BTreeSet<_>>())),
@@ -276,7 +303,7 @@ fn table<const T: usize>(keys: Vec<[u8; T]>, shape: &'static str) -> Table {
     );
     row(
         "difference",
-        compare!(n, || loes::difference(&pa, &pb, &mut room), || plain_rust::difference(&pa, &pb, &mut out)),
+        joins.difference,
         [
             Some(least(n, || join(&a, &b, |in_a, in_b| in_a && !in_b))),
             Some(least(n, || ta.difference(&tb).copied().collect::<BTreeSet<_>>())),
@@ -398,7 +425,234 @@ fn table<const T: usize>(keys: Vec<[u8; T]>, shape: &'static str) -> Table {
         walked,
         [Some(least(n, || all(keys.iter()))), Some(least(n, || all(tree.iter()))), Some(least(n, || all(hash.iter())))],
     );
+    rows.extend(weighted_rows(&keys, &asked, &joins));
     Table { shape, width, count: n, bits: opened.bits, rows }
+}
+
+// ---- Weights
+
+type Pair<const T: usize> = ([u8; T], i32);
+
+/// Each key with a weight, far from the ends of the range.
+fn weighed<const T: usize>(keys: &[[u8; T]]) -> Vec<Pair<T>> {
+    keys.iter().copied().zip(-500..).collect()
+}
+
+fn list<const T: usize>(pairs: &[Pair<T>]) -> Vec<i32> {
+    pairs.iter().map(|(_, weight)| *weight).collect()
+}
+
+/// The sum, if it is in range.
+fn add(weight: &mut i32, amount: i32) -> Option<()> {
+    *weight = weight.checked_add(amount)?;
+    Some(())
+}
+
+fn union_pairs<const T: usize>(a: &[Pair<T>], b: &[Pair<T>]) -> Option<Vec<Pair<T>>> {
+    let (mut i, mut j) = (0, 0);
+    let mut out = Vec::with_capacity(a.len() + b.len());
+    while i < a.len() && j < b.len() {
+        let ((x, v), (y, w)) = (a[i], b[j]);
+        let order = x.cmp(&y);
+        out.push(match order {
+            Ordering::Less => (x, v),
+            Ordering::Equal => (x, v.checked_add(w)?),
+            Ordering::Greater => (y, w),
+        });
+        i += usize::from(order != Ordering::Greater);
+        j += usize::from(order != Ordering::Less);
+    }
+    out.extend(&a[i..]);
+    out.extend(&b[j..]);
+    Some(out)
+}
+
+fn difference_pairs<const T: usize>(a: &[Pair<T>], b: &[[u8; T]]) -> Vec<Pair<T>> {
+    let mut j = 0;
+    let mut out = Vec::with_capacity(a.len());
+    for pair in a {
+        while j < b.len() && b[j] < pair.0 {
+            j += 1;
+        }
+        if b.get(j) != Some(&pair.0) {
+            out.push(*pair);
+        }
+    }
+    out
+}
+
+/// The joins of two sets, with lists and without.
+struct Joins {
+    union: Times,
+    difference: Times,
+    union_weighted: Times,
+    difference_weighted: Times,
+}
+
+impl Joins {
+    /// For each of so many keys that both have together.
+    fn measure<const T: usize>(a: &[[u8; T]], b: &[[u8; T]], n: usize) -> Joins {
+        let (pa, pb) = (packed(a), packed(b));
+        let (la, lb) = (list(&weighed(a)), list(&weighed(b)));
+        let (mut out, mut weights) = (vec![0u8; 68_695], vec![0; n]);
+        #[cfg(feature = "linked")]
+        let (mut room, mut room_for_weights) = (out.clone(), weights.clone());
+        let [union, union_weighted] = compare_all!(
+            n,
+            || loes::union(&pa, &pb, &mut room),
+            || plain_rust::union(&pa, &pb, &mut out);
+            || loes::union_weighted(&pa, &la, &pb, &lb, &mut room, &mut room_for_weights),
+            || plain_rust::union_weighted(&pa, &la, &pb, &lb, &mut out, &mut weights)
+        );
+        let [difference, difference_weighted] = compare_all!(
+            n,
+            || loes::difference(&pa, &pb, &mut room),
+            || plain_rust::difference(&pa, &pb, &mut out);
+            || loes::difference_weighted(&pa, &la, &pb, &mut room, &mut room_for_weights),
+            || plain_rust::difference_weighted(&pa, &la, &pb, &mut out, &mut weights)
+        );
+        #[cfg(feature = "linked")]
+        assert!((room, room_for_weights) == (out, weights), "the library and plain Rust write the same");
+        Joins { union, difference, union_weighted, difference_weighted }
+    }
+
+    /// What a union and a difference take more with lists.
+    fn less(&self) -> [(&'static str, Times); 2] {
+        [
+            ("union_weighted less union", less(self.union_weighted, self.union)),
+            ("difference_weighted less difference", less(self.difference_weighted, self.difference)),
+        ]
+    }
+}
+
+/// Where a join takes more ns a key than this, what lists add to it is lost in its noise.
+const NOISY: f64 = 100.0;
+
+fn less(with: Times, without: Times) -> Times {
+    let one = |with: Option<f64>, without: Option<f64>| without.filter(|time| *time <= NOISY).and_then(|time| Some(with? - time));
+    (one(with.0, without.0), one(with.1, without.1))
+}
+
+/// The joins of two parts of the keys: in turn, and at random, where a branch by a member's flag would often be guessed wrong.
+fn memberships<const T: usize>(keys: &[[u8; T]]) {
+    println!(
+        "\n## Each key in the first set, the second or both: in turn, and at random; width {}, {} clustered keys\n",
+        8 * T,
+        keys.len()
+    );
+    let [turns, random] = [in_turn, at_random].map(|kind| {
+        let [a, b] = parts(keys, kind);
+        let joins = Joins::measure(&a, &b, keys.len());
+        let [union, difference] = joins.less();
+        [
+            ("union", joins.union),
+            ("difference", joins.difference),
+            ("union_weighted", joins.union_weighted),
+            ("difference_weighted", joins.difference_weighted),
+            union,
+            difference,
+        ]
+    });
+    line(["", "library, in turn", "plain Rust", "library, at random", "plain Rust"].map(String::from));
+    rule(4);
+    for ((name, turns), (_, random)) in turns.into_iter().zip(random) {
+        line([name.to_string(), cell(turns.0), cell(turns.1), cell(random.0), cell(random.1)]);
+    }
+}
+
+/// The rows of the calls with weights, and what those that join take more than without.
+fn weighted_rows<const T: usize>(keys: &[[u8; T]], asked: &[[u8; T]], joins: &Joins) -> Vec<Row> {
+    let (m, n, q) = (8 * T as u64, keys.len(), asked.len());
+    let (batch, bytes) = (keys.concat(), packed(keys));
+    let opened = plain_rust::open(&bytes).unwrap();
+    #[cfg(feature = "linked")]
+    let encoding = loes::Encoding::open(&bytes).unwrap();
+    let [a, b] = parts(keys, in_turn);
+    let (va, vb) = (weighed(&a), weighed(&b));
+    let (ta, tb): (BTreeMap<_, _>, BTreeMap<_, _>) = (va.iter().copied().collect(), vb.iter().copied().collect());
+    let (ha, hb): (HashMap<_, _>, HashMap<_, _>) = (va.iter().copied().collect(), vb.iter().copied().collect());
+    let (mut out, mut weights) = (vec![0u8; 68_695], vec![0; n]);
+    #[cfg(feature = "linked")]
+    let (mut room, mut room_for_weights) = (out.clone(), weights.clone());
+
+    let mut rows: Vec<Row> = Vec::new();
+    let mut row = |name, (library, plain), others| rows.push(Row { name, library, plain, others });
+    let mut pairs = weighed(keys);
+    let mut tree: BTreeMap<_, _> = pairs.iter().copied().collect();
+    let mut hash: HashMap<_, _> = pairs.iter().copied().collect();
+    row(
+        "post",
+        compare!(q, || each(asked, |key| encoding.post(&mut room_for_weights, key, 1)), || each(asked, |key| {
+            plain_rust::post(&bytes, &opened, &mut weights, key, 1)
+        })),
+        [
+            Some(least(q, || {
+                each(asked, |key| pairs.binary_search_by_key(key, |pair| pair.0).ok().and_then(|i| add(&mut pairs[i].1, 1)))
+            })),
+            Some(least(q, || each(asked, |key| tree.get_mut(key).and_then(|weight| add(weight, 1))))),
+            Some(least(q, || each(asked, |key| hash.get_mut(key).and_then(|weight| add(weight, 1))))),
+        ],
+    );
+    // the check is dear
+    let few = &asked[..q / 20];
+    row(
+        "post with the check",
+        compare!(few.len(), || each(few, |key| loes::post(&bytes, &mut room_for_weights, key, 1)), || each(few, |key| {
+            plain_rust::open(&bytes).and_then(|opened| plain_rust::post(&bytes, &opened, &mut weights, key, 1))
+        })),
+        [None; 3],
+    );
+    let zeros = || batch.chunks_exact(T).map(|key| (<[u8; T]>::try_from(key).unwrap(), 0));
+    row(
+        "pack_weighted",
+        compare!(n, || loes::pack_weighted(m, &batch, &mut room, &mut room_for_weights), || plain_rust::pack_weighted(
+            m,
+            &batch,
+            &mut out,
+            &mut weights
+        )),
+        [
+            Some(least(n, || rising(zeros().map(|(key, _)| key).collect()).into_iter().map(|key| (key, 0)).collect::<Vec<_>>())),
+            Some(least(n, || zeros().collect::<BTreeMap<_, _>>())),
+            Some(least(n, || zeros().collect::<HashMap<_, _>>())),
+        ],
+    );
+    row(
+        "union_weighted",
+        joins.union_weighted,
+        [
+            Some(least(n, || union_pairs(&va, &vb))),
+            Some(least(n, || {
+                let mut sums = ta.clone();
+                tb.iter().try_for_each(|(key, weight)| add(sums.entry(*key).or_insert(0), *weight));
+                sums
+            })),
+            Some(least(n, || {
+                let mut sums = ha.clone();
+                hb.iter().try_for_each(|(key, weight)| add(sums.entry(*key).or_insert(0), *weight));
+                sums
+            })),
+        ],
+    );
+    row(
+        "difference_weighted",
+        joins.difference_weighted,
+        [
+            Some(least(n, || difference_pairs(&va, &b))),
+            Some(least(n, || {
+                ta.iter().filter(|(key, _)| !tb.contains_key(*key)).map(|(key, weight)| (*key, *weight)).collect::<BTreeMap<_, _>>()
+            })),
+            Some(least(n, || {
+                ha.iter().filter(|(key, _)| !hb.contains_key(*key)).map(|(key, weight)| (*key, *weight)).collect::<HashMap<_, _>>()
+            })),
+        ],
+    );
+    #[cfg(feature = "linked")]
+    assert!((room, room_for_weights) == (out, weights), "the library and plain Rust write the same");
+    for (name, times) in joins.less() {
+        row(name, times, [None; 3]);
+    }
+    rows
 }
 
 // ---- Printing

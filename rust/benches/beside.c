@@ -1,5 +1,6 @@
 /* Every call of several builds of the library, taken in turns in one program on the same inputs: for each call the least time
- * of each build, in nanoseconds, and its ratio to the first one's. Prints markdown; ends with 1 if two results differ.
+ * of each build, in nanoseconds, and its ratio to the first one's. Prints markdown; ends with 1 if two results differ. Calls
+ * with weights are left out if a build has none.
  *
  *     beside REPETITIONS BUILD.so...
  */
@@ -26,27 +27,30 @@ typedef step stepped(ENCODING, uint64_t state, uint64_t *offsets, size_t offset_
 key_asked loes_unchecked_contains, loes_unchecked_index_of, loes_unchecked_lower_bound;
 loes_answer loes_unchecked_key_at(ENCODING, loes_member_index index, uint8_t *out, size_t room);
 loes_answer loes_unchecked_rank(ENCODING, loes_edge_offset offset);
+loes_answer loes_unchecked_post(ENCODING, int32_t *weights, size_t weights_length, const uint8_t *key, size_t key_length, int32_t amount);
 stepped loes_unchecked_advance, loes_unchecked_next, loes_unchecked_walk;
 
 /* The functions of a build. */
 #define FUNCTIONS(F) \
     F(open) F(pack) F(union) F(difference) F(contains) F(index_of) F(lower_bound) F(key_at) F(rank) F(advance) \
     F(unchecked_contains) F(unchecked_index_of) F(unchecked_lower_bound) F(unchecked_key_at) F(unchecked_rank) \
-    F(unchecked_advance) F(unchecked_next) F(unchecked_walk)
+    F(unchecked_advance) F(unchecked_next) F(unchecked_walk) \
+    F(post) F(pack_weighted) F(union_weighted) F(difference_weighted) F(unchecked_post)
 #define MEMBER(name) __typeof__(loes_##name) *name##_;
 struct build {
     FUNCTIONS(MEMBER)
 };
 
 static struct build builds[BUILDS];
-static int build_count, repetitions, wrong;
+static int build_count, repetitions, weighted = 1, wrong;
 static uint8_t keys[MOST][LONGEST], batch[MOST * LONGEST], first[ROOM], second[ROOM], out[ROOM], expected[ROOM];
 static uint8_t asked[ASKED][LONGEST];
+static int32_t first_weights[MOST], second_weights[MOST], weights[MOST], expected_weights[MOST];
 static loes_member_index indices[ASKED];
 static loes_edge_offset offsets[ASKED];
 static uint64_t path[LOES_CURSOR_OFFSETS];
 static loes_cursor cursor;
-static size_t key_bytes, batch_bytes, first_bytes, second_bytes;
+static size_t key_bytes, batch_bytes, first_bytes, second_bytes, first_count, second_count;
 static loes_opened opened;
 static uint64_t state;
 
@@ -138,6 +142,19 @@ static uint64_t packing(const struct build *b) { return written(b->pack_(8 * key
 static uint64_t uniting(const struct build *b) { return written(b->union_(first, first_bytes, second, second_bytes, out, ROOM)); }
 static uint64_t subtracting(const struct build *b) { return written(b->difference_(first, first_bytes, second, second_bytes, out, ROOM)); }
 
+/* The same with lists. */
+static uint64_t packing_weighted(const struct build *b) {
+    return written(b->pack_weighted_(8 * key_bytes, batch, batch_bytes, out, ROOM, weights, MOST));
+}
+static uint64_t uniting_weighted(const struct build *b) {
+    return written(b->union_weighted_(first, first_bytes, first_weights, first_count, second, second_bytes, second_weights,
+                                      second_count, out, ROOM, weights, MOST));
+}
+static uint64_t subtracting_weighted(const struct build *b) {
+    return written(b->difference_weighted_(first, first_bytes, first_weights, first_count, second, second_bytes, out, ROOM, weights,
+                                           MOST));
+}
+
 #define OPENED opened.width, opened.count, opened.bits, first, first_bytes
 
 /* A question put to bytes, and the same behind the check ASKED times. */
@@ -160,6 +177,8 @@ QUESTION(index_of, asked[i], key_bytes)
 QUESTION(lower_bound, asked[i], key_bytes)
 QUESTION(key_at, indices[i], out, key_bytes)
 QUESTION(rank, offsets[i])
+/* the amount 0, so that each build finds the same list */
+QUESTION(post, first_weights, opened.count, asked[i], key_bytes, 0)
 
 /* The first step, and every step behind the check, with the test of the cursor and without. */
 static uint64_t advance(const struct build *b) {
@@ -212,6 +231,7 @@ static void measure(const char *name, const char *call, timed *run, size_t thing
         for (int k = 0; k < build_count; k++) {
             uint64_t number = 0;
             memset(out, 0, sizeof out);
+            memset(weights, 1, sizeof weights);
             start = now();
             for (int i = 0; i < calls; i++) number = run(&builds[k]);
             double time = (now() - start) / calls;
@@ -219,8 +239,10 @@ static void measure(const char *name, const char *call, timed *run, size_t thing
             if (turn == 0 && k == 0) {
                 result = number;
                 memcpy(expected, out, sizeof out);
+                memcpy(expected_weights, weights, sizeof weights);
             }
             if (number != result || memcmp(out, expected, sizeof out) != 0) wrong = 1;
+            if (memcmp(weights, expected_weights, sizeof weights) != 0) wrong = 1;
         }
     printf("| %s | %s | %.1f |", name, call, least[0] / things);
     for (int k = 1; k < build_count; k++) printf(" %.1f | %.3f |", least[k] / things, least[k] / least[0]);
@@ -232,6 +254,11 @@ static void joins(const char *name, size_t n, chosen *in_first, chosen *in_secon
     second_bytes = packed(n, in_second, second);
     measure(name, "union", uniting, 1);
     measure(name, "difference", subtracting, 1);
+    if (!weighted) return;
+    first_count = builds[0].open_(first, first_bytes).count;
+    second_count = builds[0].open_(second, second_bytes).count;
+    measure(name, "union_weighted", uniting_weighted, 1);
+    measure(name, "difference_weighted", subtracting_weighted, 1);
 }
 
 /* Every call but the joins, on all n keys. Half of the questions are for members. */
@@ -260,6 +287,10 @@ static void questions(const char *name, size_t n) {
     measure(name, "unchecked_advance", unchecked_advance, n + 1);
     measure(name, "unchecked_next", unchecked_next, n + 1);
     measure(name, "iteration", iteration, n + 1);
+    if (!weighted) return;
+    measure(name, "pack_weighted", packing_weighted, 1);
+    measure(name, "post", post, 1);
+    measure(name, "unchecked_post", unchecked_post, ASKED);
 }
 
 static void both(const char *name, size_t n) {
@@ -281,7 +312,9 @@ int main(int count, char **words) {
         if (!library) return 4;
 #define FIND(name) builds[build_count].name##_ = dlsym(library, "loes_" #name);
         FUNCTIONS(FIND)
+        if (!builds[build_count].unchecked_post_) weighted = 0;
     }
+    for (size_t i = 0; i < MOST; i++) first_weights[i] = (int32_t)(i % 1000) - 500, second_weights[i] = 7;
     printf("| keys | call | first, ns |");
     for (int k = 1; k < build_count; k++) printf(" %d, ns | ratio |", k + 1);
     printf("\n|---|---|--:|");

@@ -1,4 +1,4 @@
-//! The library's algorithms in plain Rust, to measure against. Refusals are document 01's numbers.
+//! The library's algorithms in plain Rust, to measure against. Refusals are the numbers of documents 01 and 02.
 #![allow(dead_code)]
 
 pub const MAX_WIDTH: usize = 256;
@@ -679,6 +679,11 @@ fn mark_level(batch: &[u8], t: usize, d: usize, first: usize, edges: &mut [u8]) 
 }
 
 pub fn pack(width: u64, batch: &[u8], out: &mut [u8]) -> Result<usize, u64> {
+    Ok(pack_within(width, batch, out, usize::MAX)?.0)
+}
+
+/// The same if there are no more than so many members: 14 otherwise. Tells the length and the count.
+fn pack_within(width: u64, batch: &[u8], out: &mut [u8], most: usize) -> Result<(usize, usize), u64> {
     if width == 0 || width > MAX_WIDTH as u64 {
         return Err(4);
     }
@@ -699,6 +704,9 @@ pub fn pack(width: u64, batch: &[u8], out: &mut [u8]) -> Result<usize, u64> {
         }
     }
     let length = length(m, bits, out.len())?;
+    if most < counts[m] {
+        return Err(14);
+    }
     let at = edges_start(m);
     let edges = &mut out[at..at + bits.div_ceil(8)];
     edges.fill(0);
@@ -710,7 +718,7 @@ pub fn pack(width: u64, batch: &[u8], out: &mut [u8]) -> Result<usize, u64> {
     }
     mark_keys(batch, t, &mut starts[..apart], edges);
     write_around(m, counts[m], &ends, out);
-    Ok(length)
+    Ok((length, counts[m]))
 }
 
 // ---- Union and difference, eight records at a time
@@ -1012,21 +1020,139 @@ fn open_both(a: &[u8], b: &[u8]) -> Result<(Opened, Opened), u64> {
     Ok((e, f))
 }
 
+/// The union of two opened sets, and its levels' ends.
+fn merge_opened(a: &[u8], e: &Opened, b: &[u8], f: &Opened) -> (Merged, [usize; MAX_WIDTH]) {
+    let mut ends = [0; MAX_WIDTH];
+    let merged = merge(&a[e.edges..], e.bits / 2, &b[f.edges..], f.bits / 2, &mut ends[..e.width]);
+    (merged, ends)
+}
+
+/// The first set's edges where no member's flags but the first's are set, and its count; the levels' ends become its own.
+fn subtract(e: &Opened, merged: &mut Merged, ends: &mut [usize]) -> (Vec<u8>, usize) {
+    mark::<1>(merged);
+    let mut edges = vec![0u8; e.bits.div_ceil(8) + 8];
+    let records = compact(&merged.queue, merged.records, &mut edges);
+    let count = level_ends(&edges, records, &mut ends[..e.width]);
+    (edges, count)
+}
+
 pub fn union(a: &[u8], b: &[u8], out: &mut [u8]) -> Result<usize, u64> {
     let (e, f) = open_both(a, b)?;
-    let mut ends = [0; MAX_WIDTH];
-    let mut merged = merge(&a[e.edges..], e.bits / 2, &b[f.edges..], f.bits / 2, &mut ends[..e.width]);
+    let (mut merged, ends) = merge_opened(a, &e, b, &f);
     seal(&mut merged.queue, merged.records);
     write(e.width, merged.members, &ends, &merged.queue, out)
 }
 
 pub fn difference(a: &[u8], b: &[u8], out: &mut [u8]) -> Result<usize, u64> {
     let (e, f) = open_both(a, b)?;
-    let mut ends = [0; MAX_WIDTH];
-    let mut merged = merge(&a[e.edges..], e.bits / 2, &b[f.edges..], f.bits / 2, &mut ends[..e.width]);
-    mark::<1>(&mut merged);
-    let mut edges = vec![0u8; e.bits.div_ceil(8) + 8];
-    let records = compact(&merged.queue, merged.records, &mut edges);
-    let count = level_ends(&edges, records, &mut ends[..e.width]);
+    let (mut merged, mut ends) = merge_opened(a, &e, b, &f);
+    let (edges, count) = subtract(&e, &mut merged, &mut ends);
+    write(e.width, count, &ends, &edges, out)
+}
+
+// ---- Weights
+
+/// A list has an entry for each member, or 16.
+fn list_fits(e: &Opened, weights: &[i32]) -> Result<(), u64> {
+    if weights.len() != e.count {
+        return Err(16);
+    }
+    Ok(())
+}
+
+/// An encoding with so many members fits, and its list: 5, 14.
+fn both_fit(width: usize, count: usize, ends: &[usize], out: &[u8], weights: &[i32]) -> Result<(), u64> {
+    length(width, ends[width - 1], out.len())?;
+    if weights.len() < count {
+        return Err(14);
+    }
+    Ok(())
+}
+
+/// Whether the amount was posted: not, if the key is absent.
+pub fn post(l: &[u8], e: &Opened, weights: &mut [i32], key: &[u8], amount: i32) -> Result<bool, u64> {
+    list_fits(e, weights)?;
+    let Some(index) = index_of(l, e, key)? else { return Ok(false) };
+    let entry = &mut weights[index as usize];
+    *entry = entry.checked_add(amount).ok_or(17u64)?;
+    Ok(true)
+}
+
+/// The members are counted by pack's first pass, where the library goes over the batch once more.
+pub fn pack_weighted(width: u64, batch: &[u8], out: &mut [u8], weights: &mut [i32]) -> Result<usize, u64> {
+    let (length, count) = pack_within(width, batch, out, weights.len())?;
+    weights[..count].fill(0);
+    Ok(length)
+}
+
+/// An entry, or 0 where there is none.
+fn entry_at(weights: &[i32], i: usize) -> i32 {
+    weights.get(i).copied().unwrap_or(0)
+}
+
+/// The entry that is next, or 0 if none is to be taken; with no branch by it.
+fn taken(weights: &[i32], next: &mut usize, take: u8) -> i64 {
+    let entry = entry_at(weights, *next) & -i32::from(take);
+    *next += usize::from(take);
+    i64::from(entry)
+}
+
+impl Merged {
+    /// For each member its flags.
+    fn flags(&self) -> impl Iterator<Item = u8> + '_ {
+        (self.records..self.records + self.members).map(|i| record(&self.queue, i))
+    }
+
+    /// For each member the sum of its weights.
+    fn sums<'a>(&'a self, a: &'a [i32], b: &'a [i32]) -> impl Iterator<Item = i64> + 'a {
+        let (mut i, mut j) = (0, 0);
+        self.flags().map(move |flags| taken(a, &mut i, flags & 1) + taken(b, &mut j, flags >> 1))
+    }
+}
+
+pub fn union_weighted(
+    a: &[u8],
+    a_weights: &[i32],
+    b: &[u8],
+    b_weights: &[i32],
+    out: &mut [u8],
+    weights: &mut [i32],
+) -> Result<usize, u64> {
+    let (e, f) = open_both(a, b)?;
+    list_fits(&e, a_weights)?;
+    list_fits(&f, b_weights)?;
+    let (mut merged, ends) = merge_opened(a, &e, b, &f);
+    both_fit(e.width, merged.members, &ends, out, weights)?;
+    if merged.sums(a_weights, b_weights).any(|sum| i32::try_from(sum).is_err()) {
+        return Err(17);
+    }
+    for (entry, sum) in weights.iter_mut().zip(merged.sums(a_weights, b_weights)) {
+        *entry = sum as i32;
+    }
+    // the flags, which stand behind the records, are not needed any more
+    seal(&mut merged.queue, merged.records);
+    write(e.width, merged.members, &ends, &merged.queue, out)
+}
+
+/// The first's entries whose keys the second does not have, in a list of as many. Each is put at the next place, kept or not, with
+/// no branch by a flag: the next that is kept is put over one that is not.
+fn keep_entries(merged: &Merged, a: &[i32], weights: &mut [i32]) {
+    let (mut i, mut kept) = (0, 0);
+    for flags in merged.flags() {
+        if let Some(place) = weights.get_mut(kept) {
+            *place = entry_at(a, i);
+        }
+        i += usize::from(flags & 1);
+        kept += usize::from(flags == 1);
+    }
+}
+
+pub fn difference_weighted(a: &[u8], a_weights: &[i32], b: &[u8], out: &mut [u8], weights: &mut [i32]) -> Result<usize, u64> {
+    let (e, f) = open_both(a, b)?;
+    list_fits(&e, a_weights)?;
+    let (mut merged, mut ends) = merge_opened(a, &e, b, &f);
+    let (edges, count) = subtract(&e, &mut merged, &mut ends);
+    both_fit(e.width, count, &ends, out, weights)?;
+    keep_entries(&merged, a_weights, &mut weights[..count]);
     write(e.width, count, &ends, &edges, out)
 }

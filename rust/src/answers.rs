@@ -1,7 +1,7 @@
 //! What the C interface answers, as Rust values.
 
 use crate::ffi::Answer;
-use crate::Refusal;
+use crate::{Posting, Refusal};
 
 pub(crate) fn refusal(number: u32) -> Refusal {
     match Refusal::from_number(u64::from(number)) {
@@ -26,6 +26,11 @@ pub(crate) fn value(answer: Answer) -> Result<u64, Refusal> {
 /// A number of bytes.
 pub(crate) fn length(answer: Answer) -> Result<usize, Refusal> {
     value(answer).map(|length| length as usize)
+}
+
+/// Whether the key was there to be posted to.
+pub(crate) fn posting(answer: Answer) -> Result<Posting, Refusal> {
+    option(answer).map(|posted| posted.map_or(Posting::Absent, |_| Posting::Posted))
 }
 
 /// The bytes that a step wrote; 0 if it went to after.

@@ -1,6 +1,6 @@
 //! The calls on bytes. Each checks the encodings it is lent, every time.
 
-use crate::{answers, ffi, Cursor, EdgeOffset, Encoding, MemberIndex, Refusal};
+use crate::{answers, ffi, Cursor, EdgeOffset, Encoding, MemberIndex, Posting, Refusal};
 
 /// Writes the encoding of a batch's keys to the front of the buffer and tells its length. A batch is keys of `width` bits laid
 /// end to end in rising order; equal neighbours are one key.
@@ -167,4 +167,145 @@ pub fn rank(encoding: &[u8], offset: EdgeOffset) -> Result<u64, Refusal> {
 /// ```
 pub fn advance(encoding: &[u8], cursor: &mut Cursor, out: &mut [u8]) -> Result<usize, Refusal> {
     answers::stepped(ffi::advance(encoding, &mut cursor.numbers, out))
+}
+
+// ---- Weights
+
+/// Adds an amount to the key's weight. [`Encoding::post`] does it without checking the encoding again.
+///
+/// ```
+/// use loes::Posting;
+///
+/// let (bytes, mut weights) = loes::pack_weighted_to_vec(3, &[0x60])?;
+/// assert_eq!(loes::post(&bytes, &mut weights, &[0x60], -5)?, Posting::Posted);
+/// assert_eq!(weights, [-5]);
+/// # Ok::<(), loes::Refusal>(())
+/// ```
+pub fn post(encoding: &[u8], weights: &mut [i32], key: &[u8], amount: i32) -> Result<Posting, Refusal> {
+    answers::posting(ffi::post(encoding, weights, key, amount))
+}
+
+/// [`pack`], and a zero for each member to the front of the list. Tells the length of the encoding.
+///
+/// The list has as many entries as the encoding has members ([`Encoding::len`]): at most one for each key of the batch.
+///
+/// ```
+/// use loes::Refusal;
+///
+/// let (mut out, mut weights) = ([0; 100], [7; 4]);
+/// assert_eq!(loes::pack_weighted(3, &[0x00, 0x60, 0xC0], &mut out, &mut weights), Ok(48));
+/// assert_eq!(weights, [0, 0, 0, 7]);
+/// assert_eq!(loes::pack_weighted(3, &[0x00, 0x60, 0xC0], &mut out, &mut weights[..2]), Err(Refusal::ShortBuffer));
+/// ```
+pub fn pack_weighted(width: u64, batch: &[u8], out: &mut [u8], weights: &mut [i32]) -> Result<usize, Refusal> {
+    answers::length(ffi::pack_weighted(width, batch, out, weights))
+}
+
+/// [`union`], and its keys' weights to the front of the list: of a key in both sets the sum, of any other its own. Tells the
+/// length of the encoding.
+///
+/// The list has as many entries as the encoding has members ([`Encoding::len`]): at most as many as both lists have together.
+///
+/// ```
+/// use loes::Refusal;
+///
+/// let (a, b) = (loes::pack_to_vec(3, &[0x00, 0x60])?, loes::pack_to_vec(3, &[0x60, 0xC0])?);
+/// let (mut out, mut weights) = ([0; 100], [0; 3]);
+/// loes::union_weighted(&a, &[1, 20], &b, &[-5, 300], &mut out, &mut weights)?;
+/// assert_eq!(weights, [1, 15, 300]);
+/// let refused = loes::union_weighted(&a, &[1, i32::MAX], &b, &[1, 300], &mut out, &mut weights);
+/// assert_eq!(refused, Err(Refusal::Overflow));
+/// # Ok::<(), Refusal>(())
+/// ```
+pub fn union_weighted(
+    first: &[u8],
+    first_weights: &[i32],
+    second: &[u8],
+    second_weights: &[i32],
+    out: &mut [u8],
+    weights: &mut [i32],
+) -> Result<usize, Refusal> {
+    answers::length(ffi::union_weighted(first, first_weights, second, second_weights, out, weights))
+}
+
+/// [`difference`], and its keys' weights to the front of the list. Tells the length of the encoding.
+///
+/// The list has as many entries as the encoding has members ([`Encoding::len`]): at most as many as the first list has.
+///
+/// ```
+/// let (a, b) = (loes::pack_to_vec(3, &[0x00, 0x60])?, loes::pack_to_vec(3, &[0x60, 0xC0])?);
+/// let (mut out, mut weights) = ([0; 100], [0; 1]);
+/// loes::difference_weighted(&a, &[1, 20], &b, &mut out, &mut weights)?;
+/// assert_eq!(weights, [1]);
+/// # Ok::<(), loes::Refusal>(())
+/// ```
+pub fn difference_weighted(
+    first: &[u8],
+    first_weights: &[i32],
+    second: &[u8],
+    out: &mut [u8],
+    weights: &mut [i32],
+) -> Result<usize, Refusal> {
+    answers::length(ffi::difference_weighted(first, first_weights, second, out, weights))
+}
+
+/// [`pack_weighted`] into new vectors.
+///
+/// ```
+/// let (bytes, weights) = loes::pack_weighted_to_vec(3, &[0x00, 0x60])?;
+/// assert_eq!((bytes, weights), (loes::pack_to_vec(3, &[0x00, 0x60])?, vec![0, 0]));
+/// # Ok::<(), loes::Refusal>(())
+/// ```
+pub fn pack_weighted_to_vec(width: u64, batch: &[u8]) -> Result<(Vec<u8>, Vec<i32>), Refusal> {
+    // at most one entry for each key of the batch; width 0 is refused
+    let key_bytes = width.div_ceil(8).max(1) as usize;
+    to_vecs(batch.len() / key_bytes, |out, weights| pack_weighted(width, batch, out, weights))
+}
+
+/// [`union_weighted`] into new vectors.
+///
+/// ```
+/// let set = loes::pack_to_vec(3, &[0x60])?;
+/// assert_eq!(loes::union_weighted_to_vec(&set, &[5], &set, &[-7])?, (set, vec![-2]));
+/// # Ok::<(), loes::Refusal>(())
+/// ```
+pub fn union_weighted_to_vec(
+    first: &[u8],
+    first_weights: &[i32],
+    second: &[u8],
+    second_weights: &[i32],
+) -> Result<(Vec<u8>, Vec<i32>), Refusal> {
+    to_vecs(first_weights.len() + second_weights.len(), |out, weights| {
+        union_weighted(first, first_weights, second, second_weights, out, weights)
+    })
+}
+
+/// [`difference_weighted`] into new vectors.
+///
+/// ```
+/// let (a, b) = (loes::pack_to_vec(3, &[0x00, 0x60])?, loes::pack_to_vec(3, &[0x00])?);
+/// assert_eq!(loes::difference_weighted_to_vec(&a, &[5, 6], &b)?, (loes::pack_to_vec(3, &[0x60])?, vec![6]));
+/// # Ok::<(), loes::Refusal>(())
+/// ```
+pub fn difference_weighted_to_vec(first: &[u8], first_weights: &[i32], second: &[u8]) -> Result<(Vec<u8>, Vec<i32>), Refusal> {
+    to_vecs(first_weights.len(), |out, weights| difference_weighted(first, first_weights, second, out, weights))
+}
+
+/// The members of an encoding that was just written, as its second field has them: open would check it whole to tell the same.
+fn count_in(encoding: &[u8]) -> usize {
+    let field = encoding[8..12].try_into().expect("four bytes");
+    u32::from_be_bytes(field) as usize
+}
+
+/// What a call writes into a buffer that every encoding fits into and a list of so many entries, which its list fits into. No set has
+/// more members than edge bits, so more are not asked for.
+fn to_vecs(
+    entries: usize,
+    call: impl FnOnce(&mut [u8], &mut [i32]) -> Result<usize, Refusal>,
+) -> Result<(Vec<u8>, Vec<i32>), Refusal> {
+    let mut weights = vec![0; entries.min(Encoding::MAX_EDGES as usize)];
+    let encoding = to_vec(|out| call(out, &mut weights))?;
+    weights.truncate(count_in(&encoding));
+    weights.shrink_to_fit();
+    Ok((encoding, weights))
 }

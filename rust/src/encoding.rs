@@ -1,7 +1,7 @@
 use std::fmt;
 use std::iter::FusedIterator;
 
-use crate::{answers, ffi, Cursor, EdgeOffset, MemberIndex, Refusal};
+use crate::{answers, ffi, Cursor, EdgeOffset, MemberIndex, Posting, Refusal};
 
 /// An opened encoding: bytes that have been checked whole, once, and their numbers. Every question is asked behind that check.
 ///
@@ -246,6 +246,25 @@ impl<'a> Encoding<'a> {
     /// ```
     pub fn advance(&self, cursor: &mut Cursor, out: &mut [u8]) -> Result<usize, Refusal> {
         answers::stepped(self.checked.advance(&mut cursor.numbers, out))
+    }
+
+    /// Adds an amount to the key's weight in the list beside the encoding, which has an entry for each member. A negative amount
+    /// is taken off.
+    ///
+    /// ```
+    /// # use loes::{Encoding, Posting, Refusal};
+    /// let (bytes, mut weights) = loes::pack_weighted_to_vec(3, &[0x00, 0x60])?;
+    /// let set = Encoding::open(&bytes)?;
+    /// assert_eq!(set.post(&mut weights, &[0x60], 40), Ok(Posting::Posted));
+    /// assert_eq!(set.post(&mut weights, &[0x60], -15), Ok(Posting::Posted));
+    /// assert_eq!(set.post(&mut weights, &[0xA0], 40), Ok(Posting::Absent));
+    /// assert_eq!(set.post(&mut weights, &[0x60], i32::MAX), Err(Refusal::Overflow));
+    /// assert_eq!(set.post(&mut weights[..1], &[0x60], 1), Err(Refusal::WrongList));
+    /// assert_eq!(weights, [0, 25]);
+    /// # Ok::<(), Refusal>(())
+    /// ```
+    pub fn post(&self, weights: &mut [i32], key: &[u8], amount: i32) -> Result<Posting, Refusal> {
+        answers::posting(self.checked.post(weights, key, amount))
     }
 
     /// Its keys in rising order.

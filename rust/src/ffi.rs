@@ -3,8 +3,8 @@
 //!
 //! The only file with `unsafe`. What makes it sound:
 //!
-//! - a slice's pointer is never null and its length is right; output slices and cursors are borrowed mutably, so they share no
-//!   byte with anything else that is lent;
+//! - a slice's pointer is never null and its length is right; what is written is borrowed mutably, so it shares no byte with
+//!   anything else that is lent;
 //! - the functions behind the check require the numbers that `loes_open` told of the same bytes: an `OpenedBytes` is made by `open` only
 //!   and borrows those bytes, so they cannot change while it lives;
 //! - the steps that do not test their cursor require a right one: a `Walk` starts before the first member, and only its own
@@ -72,6 +72,10 @@ extern "C" {
     fn loes_key_at(l: *const u8, n: usize, index: MemberIndex, out: *mut u8, m: usize) -> Answer;
     fn loes_rank(l: *const u8, n: usize, offset: EdgeOffset) -> Answer;
     fn loes_advance(l: *const u8, n: usize, cursor: *mut Cursor, out: *mut u8, m: usize) -> Answer;
+    fn loes_post(l: *const u8, n: usize, weights: *mut i32, w: usize, key: *const u8, k: usize, amount: i32) -> Answer;
+    fn loes_pack_weighted(width: u64, batch: *const u8, n: usize, out: *mut u8, m: usize, weights: *mut i32, w: usize) -> Answer;
+    fn loes_union_weighted(a: *const u8, an: usize, a_weights: *const i32, aw: usize, b: *const u8, bn: usize, b_weights: *const i32, bw: usize, out: *mut u8, m: usize, weights: *mut i32, w: usize) -> Answer;
+    fn loes_difference_weighted(a: *const u8, an: usize, a_weights: *const i32, aw: usize, b: *const u8, bn: usize, out: *mut u8, m: usize, weights: *mut i32, w: usize) -> Answer;
     // behind the check: width, members and edge bits as loes_open told them of these bytes
     fn loes_unchecked_contains(width: u64, count: u64, bits: u64, l: *const u8, n: usize, key: *const u8, k: usize) -> Answer;
     fn loes_unchecked_index_of(width: u64, count: u64, bits: u64, l: *const u8, n: usize, key: *const u8, k: usize) -> Answer;
@@ -79,6 +83,7 @@ extern "C" {
     fn loes_unchecked_key_at(width: u64, count: u64, bits: u64, l: *const u8, n: usize, index: MemberIndex, out: *mut u8, m: usize) -> Answer;
     fn loes_unchecked_rank(width: u64, count: u64, bits: u64, l: *const u8, n: usize, offset: EdgeOffset) -> Answer;
     fn loes_unchecked_advance(width: u64, count: u64, bits: u64, l: *const u8, n: usize, state: u64, offsets: *mut EdgeOffset, offset_count: usize, out: *mut u8, m: usize) -> StateAnswer;
+    fn loes_unchecked_post(width: u64, count: u64, bits: u64, l: *const u8, n: usize, weights: *mut i32, w: usize, key: *const u8, k: usize, amount: i32) -> Answer;
     // and with a right cursor
     fn loes_unchecked_next(width: u64, count: u64, bits: u64, l: *const u8, n: usize, state: u64, offsets: *mut EdgeOffset, offset_count: usize, out: *mut u8, m: usize) -> StateAnswer;
     fn loes_unchecked_walk(width: u64, count: u64, bits: u64, l: *const u8, n: usize, state: u64, offsets: *mut EdgeOffset, offset_count: usize, out: *mut u8, m: usize) -> StateAnswer;
@@ -141,6 +146,39 @@ pub fn advance(l: &[u8], cursor: &mut Cursor, out: &mut [u8]) -> Answer {
     unsafe { loes_advance(l.as_ptr(), l.len(), cursor, out.as_mut_ptr(), out.len()) }
 }
 
+pub fn post(l: &[u8], weights: &mut [i32], key: &[u8], amount: i32) -> Answer {
+    unsafe { loes_post(l.as_ptr(), l.len(), weights.as_mut_ptr(), weights.len(), key.as_ptr(), key.len(), amount) }
+}
+
+#[rustfmt::skip]
+pub fn pack_weighted(width: u64, batch: &[u8], out: &mut [u8], weights: &mut [i32]) -> Answer {
+    unsafe {
+        loes_pack_weighted(
+            width, batch.as_ptr(), batch.len(), out.as_mut_ptr(), out.len(), weights.as_mut_ptr(), weights.len(),
+        )
+    }
+}
+
+#[rustfmt::skip]
+pub fn union_weighted(a: &[u8], a_weights: &[i32], b: &[u8], b_weights: &[i32], out: &mut [u8], weights: &mut [i32]) -> Answer {
+    unsafe {
+        loes_union_weighted(
+            a.as_ptr(), a.len(), a_weights.as_ptr(), a_weights.len(), b.as_ptr(), b.len(), b_weights.as_ptr(), b_weights.len(),
+            out.as_mut_ptr(), out.len(), weights.as_mut_ptr(), weights.len(),
+        )
+    }
+}
+
+#[rustfmt::skip]
+pub fn difference_weighted(a: &[u8], a_weights: &[i32], b: &[u8], out: &mut [u8], weights: &mut [i32]) -> Answer {
+    unsafe {
+        loes_difference_weighted(
+            a.as_ptr(), a.len(), a_weights.as_ptr(), a_weights.len(), b.as_ptr(), b.len(),
+            out.as_mut_ptr(), out.len(), weights.as_mut_ptr(), weights.len(),
+        )
+    }
+}
+
 /// A step behind the check, over lent offsets.
 type StepBehind = unsafe extern "C" fn(u64, u64, u64, *const u8, usize, u64, *mut EdgeOffset, usize, *mut u8, usize) -> StateAnswer;
 
@@ -177,6 +215,16 @@ impl<'a> OpenedBytes<'a> {
     pub fn rank(&self, offset: EdgeOffset) -> Answer {
         let OpenedBytes { bytes, width, count, bits } = *self;
         unsafe { loes_unchecked_rank(width, count, bits, bytes.as_ptr(), bytes.len(), offset) }
+    }
+
+    #[rustfmt::skip]
+    pub fn post(&self, weights: &mut [i32], key: &[u8], amount: i32) -> Answer {
+        let OpenedBytes { bytes, width, count, bits } = *self;
+        unsafe {
+            loes_unchecked_post(
+                width, count, bits, bytes.as_ptr(), bytes.len(), weights.as_mut_ptr(), weights.len(), key.as_ptr(), key.len(), amount,
+            )
+        }
     }
 
     pub fn advance(&self, cursor: &mut Cursor, out: &mut [u8]) -> Answer {

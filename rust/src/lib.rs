@@ -38,12 +38,44 @@
 //! # fn main() {}
 //! ```
 //!
+//! Keys may have weights: signed numbers of 32 bits in a list beside the encoding, entry i for the key with member index i.
+//!
+//! ```
+//! # #[cfg(feature = "linked")]
+//! # fn main() -> Result<(), loes::Refusal> {
+//! use loes::Posting;
+//!
+//! // a new list has a zero for each member; then amounts are added, and negative ones taken off
+//! let (harbour, mut landed) = loes::pack_weighted_to_vec(16, &[0x01, 0x00, 0x01, 0x07])?;
+//! assert_eq!(loes::post(&harbour, &mut landed, &[0x01, 0x07], 24_000)?, Posting::Posted);
+//! assert_eq!(loes::post(&harbour, &mut landed, &[0x01, 0x07], -500)?, Posting::Posted);
+//! assert_eq!(loes::post(&harbour, &mut landed, &[0x2A, 0x00], 24_000)?, Posting::Absent);
+//!
+//! // in a union the weights of a key that both have are added
+//! let depot = loes::pack_to_vec(16, &[0x01, 0x07, 0xFF, 0xFF])?;
+//! let (both, weights) = loes::union_weighted_to_vec(&harbour, &landed, &depot, &[1_000, 70])?;
+//! assert_eq!(weights, [0, 24_500, 70]);
+//!
+//! // in a difference the others keep theirs
+//! let (_, weights) = loes::difference_weighted_to_vec(&both, &weights, &harbour)?;
+//! assert_eq!(weights, [70]);
+//! # Ok(())
+//! # }
+//! # #[cfg(not(feature = "linked"))]
+//! # fn main() {}
+//! ```
+//!
 //! Every call works in lent memory and is total: whatever bytes it is given, it answers or names the [`Refusal`]; refused, it
 //! changes nothing. The calls and their refusals are proved of the static library that this crate links; this crate adds the types.
 
 #![deny(missing_docs)]
 #![deny(unsafe_code)]
 #![cfg_attr(not(feature = "linked"), allow(rustdoc::broken_intra_doc_links))]
+
+// the examples of the README, to be tested
+#[cfg(all(doctest, feature = "linked"))]
+#[doc = include_str!("../../README.md")]
+struct Readme;
 
 mod refusal;
 pub use refusal::Refusal;
@@ -63,10 +95,14 @@ mod encoding;
 #[doc(hidden)]
 #[allow(missing_docs, unsafe_code)]
 pub mod ffi;
+#[cfg(feature = "linked")]
+mod posting;
 
 #[cfg(feature = "linked")]
 pub use calls::{
-    advance, contains, difference, difference_to_vec, index_of, key_at, lower_bound, pack, pack_to_vec, rank, union, union_to_vec,
+    advance, contains, difference, difference_to_vec, difference_weighted, difference_weighted_to_vec, index_of, key_at,
+    lower_bound, pack, pack_to_vec, pack_weighted, pack_weighted_to_vec, post, rank, union, union_to_vec, union_weighted,
+    union_weighted_to_vec,
 };
 #[cfg(feature = "linked")]
 pub use counts::{EdgeOffset, MemberIndex};
@@ -74,3 +110,5 @@ pub use counts::{EdgeOffset, MemberIndex};
 pub use cursor::{Cursor, State};
 #[cfg(feature = "linked")]
 pub use encoding::{Encoding, Keys};
+#[cfg(feature = "linked")]
+pub use posting::Posting;

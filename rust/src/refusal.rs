@@ -1,6 +1,6 @@
 use std::fmt;
 
-/// Why a call was refused. A refused call changes nothing: every lent buffer and the cursor keep their values.
+/// Why a call was refused. A refused call changes nothing: every lent buffer, every list and the cursor keep their values.
 ///
 /// ```
 /// use loes::Refusal;
@@ -37,10 +37,14 @@ pub enum Refusal {
     Descending = 12,
     /// Two encodings of different widths.
     TwoWidths = 13,
-    /// An output buffer shorter than the result.
+    /// An output buffer or an output list shorter than the result.
     ShortBuffer = 14,
     /// A cursor that is neither before, nor after, nor at a member of this encoding.
     BadCursor = 15,
+    /// A list of weights that is not as long as its encoding has members.
+    WrongList = 16,
+    /// A sum of weights that leaves 32 signed bits.
+    Overflow = 17,
 }
 
 use Refusal::*;
@@ -50,20 +54,21 @@ impl Refusal {
     ///
     /// ```
     /// # use loes::Refusal;
-    /// assert!(Refusal::ALL.iter().map(|refusal| refusal.number()).eq(1..=15));
+    /// assert!(Refusal::ALL.iter().map(|refusal| refusal.number()).eq(1..=17));
     /// ```
     #[rustfmt::skip]
     pub const ALL: &'static [Refusal] = &[
         Truncated, WrongTag, WrongLength, BadWidth, TooLarge, TrailingBytes, NotAnEncoding, BadKey,
-        OutOfRange, RaggedBatch, UnusedBitSet, Descending, TwoWidths, ShortBuffer, BadCursor,
+        OutOfRange, RaggedBatch, UnusedBitSet, Descending, TwoWidths, ShortBuffer, BadCursor, WrongList,
+        Overflow,
     ];
 
-    /// The refusal's number, 1 to 15.
+    /// The refusal's number, 1 to 17.
     ///
     /// ```
     /// # use loes::Refusal;
     /// assert_eq!(Refusal::Truncated.number(), 1);
-    /// assert_eq!(Refusal::BadCursor.number(), 15);
+    /// assert_eq!(Refusal::Overflow.number(), 17);
     /// ```
     pub const fn number(self) -> u8 {
         self as u8
@@ -101,8 +106,10 @@ impl Refusal {
             UnusedBitSet => "a key of the batch has an unused bit set",
             Descending => "a key of the batch is smaller than the one before it",
             TwoWidths => "the two encodings have keys of different widths",
-            ShortBuffer => "the output buffer is shorter than the result",
+            ShortBuffer => "the output buffer or the output list is shorter than the result",
             BadCursor => "the cursor is neither before, nor after, nor at a member of this encoding",
+            WrongList => "a list of weights is not as long as its encoding has members",
+            Overflow => "a sum of weights leaves 32 signed bits",
         }
     }
 }

@@ -4,7 +4,7 @@
 mod cases;
 mod plain;
 
-use loes::{ffi, Cursor, EdgeOffset, Encoding, MemberIndex, Refusal, State};
+use loes::{ffi, Cursor, EdgeOffset, Encoding, MemberIndex, Posting, Refusal, State};
 use plain::{key_len, Answer, Set};
 
 struct Library;
@@ -41,6 +41,10 @@ fn length(result: Result<usize, Refusal>) -> Answer {
 
 fn index(result: Result<Option<MemberIndex>, Refusal>) -> Answer {
     number(result).map(|index| index.map(|index| index.0))
+}
+
+fn posting(result: Result<Posting, Refusal>) -> Answer {
+    number(result).map(|posting| (posting == Posting::Posted).then_some(1))
 }
 
 /// Encodings are built, opened and asked through the Rust interface; cursors in numbers, so that any can be given.
@@ -108,6 +112,26 @@ impl Subject for Library {
     fn place(walk: &ffi::Walk<'_>) -> (u64, Vec<u64>) {
         (walk.cursor().state, walk.cursor().offsets.map(|offset| offset.0).to_vec())
     }
+
+    fn pack_weighted(width: u64, batch: &[u8], out: &mut [u8], list: &mut [i32]) -> Answer {
+        length(loes::pack_weighted(width, batch, out, list))
+    }
+
+    fn union_weighted(a: &[u8], a_list: &[i32], b: &[u8], b_list: &[i32], out: &mut [u8], list: &mut [i32]) -> Answer {
+        length(loes::union_weighted(a, a_list, b, b_list, out, list))
+    }
+
+    fn difference_weighted(a: &[u8], a_list: &[i32], b: &[u8], out: &mut [u8], list: &mut [i32]) -> Answer {
+        length(loes::difference_weighted(a, a_list, b, out, list))
+    }
+
+    fn post(l: &[u8], list: &mut [i32], key: &[u8], amount: i32) -> Answer {
+        posting(loes::post(l, list, key, amount))
+    }
+
+    fn post_opened((_, encoding): &Self::Opened<'_>, list: &mut [i32], key: &[u8], amount: i32) -> Answer {
+        posting(encoding.post(list, key, amount))
+    }
 }
 
 differential_tests!(Library);
@@ -134,6 +158,18 @@ fn answers_in_numbers() {
         assert_eq!(ffi::advance(&P2, &mut cursor, &mut [0]), value(1));
     }
     assert_eq!(ffi::advance(&P2, &mut cursor, &mut [0]), none);
+    let mut list = [0, i32::MAX, 0];
+    assert_eq!((ffi::post(&P2, &mut list, &[0x00], -5), list), (value(1), [-5, i32::MAX, 0]));
+    assert_eq!(ffi::post(&P2, &mut list, &[0xA0], 1), none);
+    assert_eq!(ffi::post(&P2, &mut list, &[0x60], 1), refused(17));
+    assert_eq!(ffi::post(&P2, &mut list[..2], &[0x61], 1), refused(16));
+    assert_eq!(ffi::pack_weighted(3, &[0x00], &mut [0; 47], &mut []), refused(14));
+    assert_eq!(ffi::pack_weighted(3, &[0x00], &mut [0; 47], &mut list), value(47));
+    let mut out = [0; 48];
+    assert_eq!(ffi::union_weighted(&P2, &[1; 3], &P2, &[2; 3], &mut out, &mut list), value(48));
+    assert_eq!(ffi::union_weighted(&P2, &[i32::MIN; 3], &P2, &[-1; 3], &mut out, &mut list), refused(17));
+    assert_eq!(ffi::difference_weighted(&P2, &[1; 3], &P2, &mut out, &mut []), value(36));
+    assert_eq!(ffi::difference_weighted(&P2, &[1; 4], &P2, &mut out, &mut []), refused(16));
 }
 
 /// The iterator gives the keys, knows how many are left, and stays at its end.
@@ -180,6 +216,29 @@ fn into_vectors() {
     });
 }
 
+/// The same with lists; also of a batch with equal neighbours, and where a sum leaves the range.
+#[test]
+fn into_vectors_with_lists() {
+    rounds("into_vectors_with_lists", 100, |rng| {
+        let width = random_width(rng);
+        let [a, b] = operands(rng, width, 60).map(Set::lay);
+        let (x, y) = (a.encode(), b.encode());
+        let batch: Vec<u8> = a.set.keys.iter().flat_map(|key| key.repeat(2)).collect();
+        assert_eq!(loes::pack_weighted_to_vec(width as u64, &batch), Ok((x.clone(), vec![0; a.count()])));
+        let (v, w) = (list(rng, a.count()), list(rng, b.count()));
+        let right = |weighed: Result<plain::Weighed, u64>| {
+            let weighed = weighed.unwrap();
+            let (mut out, mut list) = (vec![0; weighed.laid.encode().len()], vec![0; weighed.laid.count()]);
+            weighed.write(&mut out, &mut list).map(|_| (out, list))
+        };
+        let union = loes::union_weighted_to_vec(&x, &v, &y, &w);
+        assert_eq!(number(union), right(plain::union_weighted(&a, &v, &b, &w)));
+        let difference = loes::difference_weighted_to_vec(&x, &v, &y);
+        assert_eq!(number(difference), right(plain::difference_weighted(&a, &v, &b)));
+        assert_eq!(loes::difference_weighted_to_vec(&x, &[&v[..], &[0]].concat(), &y), Err(Refusal::WrongList));
+    });
+}
+
 /// A cursor through the Rust interface, checked and behind the check.
 #[test]
 fn cursors() {
@@ -217,6 +276,7 @@ fn stack() {
     let batch = batch_of(&halves[0].set);
     let [a, b] = halves.map(|laid| laid.encode());
     let (mut out, mut cursor) = (vec![0; Encoding::MAX_BYTES], Cursor::new());
+    let (mut list, zeros) = (vec![0; count as usize], vec![0; count as usize]);
     let calls = move || {
         assert_eq!(loes::pack(19, &batch, &mut out), Ok(a.len()));
         assert_eq!(loes::union(&a, &b, &mut out), Err(Refusal::TooLarge));
@@ -228,6 +288,11 @@ fn stack() {
         assert_eq!(loes::rank(&a, EdgeOffset(0)), Ok(1));
         assert_eq!(loes::advance(&a, &mut cursor, &mut out), Ok(key.len()));
         assert_eq!(Encoding::open(&a).map(|encoding| encoding.len()), Ok(count));
+        assert_eq!(loes::pack_weighted(19, &batch, &mut out, &mut list), Ok(a.len()));
+        assert_eq!(loes::union_weighted(&a, &zeros, &a, &zeros, &mut out, &mut list), Ok(a.len()));
+        assert_eq!(loes::union_weighted(&a, &zeros, &b, &zeros, &mut out, &mut list), Err(Refusal::TooLarge));
+        assert_eq!(loes::difference_weighted(&a, &zeros, &b, &mut out, &mut list), Ok(a.len()));
+        assert_eq!(loes::post(&a, &mut list, &key, 1), Ok(Posting::Posted));
     };
     std::thread::Builder::new().stack_size(ALLOWED).spawn(calls).unwrap().join().unwrap();
 }

@@ -81,6 +81,27 @@ impl Subject for PlainRust {
     fn place((_, cursor): &Self::Walk<'_>) -> (u64, Vec<u64>) {
         (cursor.state, cursor.offsets.to_vec())
     }
+
+    fn pack_weighted(width: u64, batch: &[u8], out: &mut [u8], list: &mut [i32]) -> Answer {
+        length(plain_rust::pack_weighted(width, batch, out, list))
+    }
+
+    fn union_weighted(a: &[u8], a_list: &[i32], b: &[u8], b_list: &[i32], out: &mut [u8], list: &mut [i32]) -> Answer {
+        length(plain_rust::union_weighted(a, a_list, b, b_list, out, list))
+    }
+
+    fn difference_weighted(a: &[u8], a_list: &[i32], b: &[u8], out: &mut [u8], list: &mut [i32]) -> Answer {
+        length(plain_rust::difference_weighted(a, a_list, b, out, list))
+    }
+
+    fn post(l: &[u8], list: &mut [i32], key: &[u8], amount: i32) -> Answer {
+        let (opened, _) = Self::open(l)?;
+        Self::post_opened(&opened, list, key, amount)
+    }
+
+    fn post_opened((l, e): &(&[u8], Opened), list: &mut [i32], key: &[u8], amount: i32) -> Answer {
+        Ok(plain_rust::post(l, e, list, key, amount)?.then_some(1))
+    }
 }
 
 differential_tests!(PlainRust);

@@ -1,9 +1,9 @@
-//! The reference against document 01's examples and refusals. Needs no library.
+//! The reference against document 01's examples and refusals, and against worked examples of weights. Needs no library.
 
 #[allow(dead_code)]
 mod plain;
 
-use plain::{pack, read, Answer, Cursor, Laid, Set, Walk};
+use plain::{pack, read, Account, Answer, Cursor, Laid, Set, Walk, Weighed};
 
 fn of(width: usize, keys: &[u8]) -> Laid {
     Set::new(width, keys.iter().map(|key| vec![*key])).lay()
@@ -195,4 +195,115 @@ fn walk() {
     mixed.offsets[..3].copy_from_slice(&[0, 3, 6]);
     assert_eq!(walk.advance(&mut mixed, &mut []), Err(15));
     assert_eq!(Walk::over(&of(3, &[])).advance(&mut Cursor::before(), &mut []), Ok(Some(0)));
+}
+
+// ---- Weights
+
+const HIGH: i32 = i32::MAX;
+const LOW: i32 = i32::MIN;
+
+/// {000, 011} and {011, 110}; P2 is their union.
+fn left_and_right() -> [Laid; 2] {
+    [of(3, &[0x00, 0x60]), of(3, &[0x60, 0xC0])]
+}
+
+/// What is written to outputs of these lengths, if it is.
+fn written(weighed: Result<Weighed, u64>, room: usize, list_room: usize) -> (Answer, Vec<u8>, Vec<i32>) {
+    let (mut out, mut list) = (vec![0xEE; room], vec![77; list_room]);
+    let answer = weighed.and_then(|weighed| weighed.write(&mut out, &mut list));
+    (answer, out, list)
+}
+
+/// A refused call's answer: its outputs have their values.
+fn refused(number: u64, room: usize, list_room: usize) -> (Answer, Vec<u8>, Vec<i32>) {
+    (Err(number), vec![0xEE; room], vec![77; list_room])
+}
+
+#[test]
+fn packs_with_a_list() {
+    let packed = |width, batch: &[u8], room, list_room| written(Weighed::packed(width, batch), room, list_room);
+    let keys = [0x00, 0x60, 0x60, 0xC0];
+    assert_eq!(packed(3, &keys, 49, 5), (Ok(Some(48)), [p2_bytes(), vec![0xEE]].concat(), vec![0, 0, 0, 77, 77]));
+    assert_eq!(packed(3, &keys, 49, 2), refused(14, 49, 2));
+    assert_eq!(packed(3, &keys, 47, 5), refused(14, 47, 5));
+    assert_eq!(packed(3, &[], 36, 0), (Ok(Some(36)), of(3, &[]).encode(), vec![]));
+    assert_eq!(packed(3, &[0x60, 0x00], 0, 0), refused(12, 0, 0));
+}
+
+#[test]
+fn posts() {
+    let post = |list: &[i32], key: u8, amount: i32| -> Result<(Option<u64>, Vec<i32>), u64> {
+        let mut weighed = Weighed::listed(&p2(), list)?;
+        let answer = weighed.post(&[key], amount)?;
+        Ok((answer, weighed.list()))
+    };
+    assert_eq!(post(&[1, 2, 3], 0x60, -5), Ok((Some(1), vec![1, -3, 3])));
+    assert_eq!(post(&[1, 2, 3], 0xC0, 0), Ok((Some(1), vec![1, 2, 3])));
+    assert_eq!(post(&[HIGH; 3], 0xA0, HIGH), Ok((None, vec![HIGH; 3])));
+    for (before, amount, after) in [(HIGH - 1, 1, Some(HIGH)), (HIGH, 1, None), (LOW + 1, -1, Some(LOW)), (LOW, -1, None)] {
+        let right = after.map(|after| (Some(1), vec![0, after, 0])).ok_or(17);
+        assert_eq!(post(&[0, before, 0], 0x60, amount), right);
+    }
+    // 16, 8, 17
+    assert_eq!(post(&[HIGH; 4], 0x61, 1), Err(16));
+    assert_eq!(post(&[HIGH; 2], 0x60, 1), Err(16));
+    assert_eq!(post(&[HIGH; 3], 0x61, 1), Err(8));
+}
+
+#[test]
+fn unions_with_lists() {
+    let [a, b] = left_and_right();
+    let unite = |v: &[i32], w: &[i32], room, list_room| written(plain::union_weighted(&a, v, &b, w), room, list_room);
+    assert_eq!(unite(&[1, 20], &[-5, 300], 48, 4), (Ok(Some(48)), p2_bytes(), vec![1, 15, 300, 77]));
+    assert_eq!(unite(&[HIGH, HIGH - 1], &[1, LOW], 48, 3), (Ok(Some(48)), p2_bytes(), vec![HIGH, HIGH, LOW]));
+    assert_eq!(unite(&[LOW, LOW + 1], &[-1, HIGH], 48, 3), (Ok(Some(48)), p2_bytes(), vec![LOW, LOW, HIGH]));
+    assert_eq!(unite(&[0, HIGH], &[1, 0], 48, 3), refused(17, 48, 3));
+    assert_eq!(unite(&[0, LOW], &[-1, 0], 48, 3), refused(17, 48, 3));
+    // 13, 16, 5, 14, 17
+    assert_eq!(unite(&[0, HIGH], &[1, 0], 47, 3), refused(14, 47, 3));
+    assert_eq!(unite(&[0, HIGH], &[1, 0], 48, 2), refused(14, 48, 2));
+    assert_eq!(unite(&[HIGH], &[1, 0], 0, 0), refused(16, 0, 0));
+    assert_eq!(unite(&[0, HIGH], &[1, 0, 0], 0, 0), refused(16, 0, 0));
+    assert_eq!(plain::union_weighted(&a, &[], &of(1, &[]), &[1]), Err(13));
+    let key = |number: u32| (number << 14).to_be_bytes()[..3].to_vec();
+    let [even, odd] = [0, 1].map(|first| Set::new(18, (0..1 << 17).map(|number| key(2 * number + first))).lay());
+    let (n, zeros) = (even.count(), vec![0; even.count()]);
+    assert_eq!(plain::union_weighted(&even, &zeros, &odd, &zeros[1..]), Err(16));
+    assert_eq!(plain::union_weighted(&even, &zeros, &odd, &vec![HIGH; n]), Err(5));
+}
+
+#[test]
+fn differences_with_lists() {
+    let [_, b] = left_and_right();
+    let subtract = |v: &[i32], other: &Laid, room, list_room| written(plain::difference_weighted(&p2(), v, other), room, list_room);
+    let one = of(3, &[0x00]).encode();
+    assert_eq!(subtract(&[LOW, 2, 3], &b, 47, 2), (Ok(Some(47)), one, vec![LOW, 77]));
+    assert_eq!(subtract(&[1, 2, 3], &p2(), 36, 1), (Ok(Some(36)), of(3, &[]).encode(), vec![77]));
+    assert_eq!(subtract(&[1, 2, 3], &b, 46, 2), refused(14, 46, 2));
+    assert_eq!(subtract(&[1, 2, 3], &b, 47, 0), refused(14, 47, 0));
+    assert_eq!(subtract(&[1, 2], &b, 0, 0), refused(16, 0, 0));
+    assert_eq!(subtract(&[], &of(1, &[]), 0, 0), refused(13, 0, 0));
+}
+
+/// What is posted after a use does not reach what was made; each use brings what was dropped on the way to it.
+#[test]
+fn ledger() {
+    let told = |account: &Account| (account.weighed.list(), account.posted, account.dropped);
+    let [mut a, mut b] = [[0x00, 0x60], [0x60, 0xC0]].map(|batch| Account::packed(3, &batch).unwrap());
+    assert_eq!(a.post(&[0x60], 10), Ok(Some(1)));
+    assert_eq!(b.post(&[0x60], -3), Ok(Some(1)));
+    assert_eq!(b.post(&[0xC0], 5), Ok(Some(1)));
+    assert_eq!(b.post(&[0x00], 1_000), Ok(None));
+    assert_eq!(b.post(&[0x01], 1_000), Err(8));
+    assert_eq!(b.post(&[0xC0], HIGH), Err(17));
+    let mut both = a.union(&b).unwrap();
+    assert_eq!(a.post(&[0x60], 100), Ok(Some(1)));
+    assert_eq!((told(&a), told(&b), told(&both)), ((vec![0, 110], 110, 0), (vec![-3, 5], 2, 0), (vec![0, 7, 5], 12, 0)));
+    assert_eq!(both.post(&[0x00], 1), Ok(Some(1)));
+    let twice = both.union(&both).unwrap();
+    assert_eq!(told(&twice), (vec![2, 14, 10], 26, 0));
+    let rest = twice.difference(&b).unwrap();
+    assert_eq!(told(&rest), (vec![2], 26, 24));
+    assert_eq!(told(&rest.union(&rest).unwrap()), (vec![4], 52, 48));
+    assert_eq!(told(&rest.union(&twice).unwrap()), (vec![4, 14, 10], 52, 24));
 }

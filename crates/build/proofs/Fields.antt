@@ -6,7 +6,7 @@ use native.Mathlib.Omega.{arith}
 use lib.ListN.{length, getD, length-append}
 use Rattle.loes.specs.Limits.{maxEdges, blockBits, subBlockBits, headBytes, widthBytes, countBytes, levelEntry, blockEntry, subBlockEntry}
 use Rattle.loes.specs.Bytes.{Bytes, started, bigEndian, bigEndians, packBits, bitsIn}
-use Rattle.loes.specs.Entry.{Entry}
+use Rattle.loes.specs.Entry.{Entry, edgeCount}
 use Rattle.loes.specs.Encode.{field, blockOnes, subBlockOnes, levelEnd, widthBody, countBody, levelBody, edgeBody, blockBody, subBlockBody, encode}
 use Rattle.loes.specs.Read.{levelBytes, edgeBytes, blockBytes, subBlockBytes, bodyAt, start3, entryAlong, endOf}
 use Rattle.loes.specs.Held.{entryHeld}
@@ -39,6 +39,11 @@ indexed-length b l h = simp (length-append, field-length, length-bigEndians, h) 
 pub edge-length : (b : ℕ) (l : Bytes) → length l ≡ edgeBytes b → length (edgeFields b l) ≡ headBytes + edgeBytes b + headBytes + blockBytes b + headBytes + subBlockBytes b
 edge-length b l h = simp length-append (omega (arith, length-bigEndian 2 (edgeBytes b), indexed-length b l h))
 
+-- the edge bits alone tell how long an encoding is
+pub held-length : (m b : ℕ) (l : Bytes) → edgeCount (entryHeld m b l) ≡ b → length (encode (entryHeld m b l)) ≡ endOf m b
+unfolding entryHeld entryAlong
+held-length m b l h = encode-length (entryHeld m b l) ∙ ap (endOf m) h
+
 module _ (m b : ℕ) (l : Bytes) (s : HoldsOnly m b l) where
   pub sealed-length : length l ≡ started 8 b
   sealed-length = ap length (sym (s .whole)) ∙ length-packed (bitsIn l b) ∙ ap (started 8) (length-bitsIn l b)
@@ -46,10 +51,6 @@ module _ (m b : ℕ) (l : Bytes) (s : HoldsOnly m b l) where
   pub sealed-small : length l ≤ maxEdges / 8
   unfolding started
   sealed-small = omega (arith, sealed-length, s .holds .few)
-
-  pub held-length : length (encode (entryHeld m b l)) ≡ endOf m b
-  unfolding entryHeld entryAlong
-  held-length = encode-length (entryHeld m b l) ∙ ap (endOf m) (held-bits m b l (s .holds))
 
   pub held-encode : (ends : List ℕ) (n : ℕ) → Shaped m b l ends n → shapeFields m n ends ++ edgeFields b l ≡ encode (entryHeld m b l)
   unfolding encode flatten indexed

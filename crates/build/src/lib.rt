@@ -7,6 +7,7 @@ ghost use lib.Dec.{ltb};
 ghost use Rattle.loes.specs.Limits.{maxWidth, maxEdges, blockBits, subBlockBits, lengthBytes, headBytes, widthBytes, countBytes, levelEntry, blockEntry, subBlockEntry};
 ghost use Rattle.loes.specs.Bytes.{bigEndian, bigEndians, started, bitsIn, front};
 ghost use Rattle.loes.specs.Edges.{ones};
+ghost use Rattle.loes.specs.Entry.{count};
 ghost use Rattle.loes.specs.Encode.{field, subBlockOnes, encode};
 ghost use Rattle.loes.specs.Held.{entryHeld, Holds};
 ghost use Rattle.loes.specs.Model.{writes};
@@ -129,6 +130,16 @@ fn level_ends(edges: &[u8], t: &[u8], m: usize, b: usize, ends: &mut [usize]) ->
         d += 1;
     }
     c + n - b / 2
+}
+
+// The members alone, of sets of whatever width: the set bits of all edges less the records that they lead to.
+pub fn members_of(m: usize, b: usize, edges: &[u8], t: &[u8]) -> usize
+    requires { ⌜ Holds m b (now edges) × Tallies (now t) × (length (now edges) ≤ maxEdges / 8) ⌝ }
+    ensures { λ r. ⌜ r ≡ count (entryHeld m b (now (edges .entry))) ⌝ }
+{
+    let seen = count_to(edges, t, Seen { bytes: 0, ones: 0 }, b / 8);
+    let n = ones_at(edges, t, seen, EdgeOffset(b));
+    encoding::roots_of(b) + n - b / 2
 }
 
 // ---- Fields of numbers, each written behind its head one after another

@@ -1,7 +1,7 @@
 -- From the calls' answers to their codes.
 use mathlib.Core.Path.{_≡_, refl, sym, ap, subst, _∙_}
 use Prim.Native.Nat.{ℕ, _≤_}
-use mathlib.Core.List.{List, []}
+use mathlib.Core.List.{List, [], _∷_}
 use mathlib.Core.Option.{Option, none, some}
 use native.Mathlib.Omega.{arith}
 use Rattle.loes.specs.Limits.{maxWidth, maxEdges}
@@ -9,28 +9,40 @@ use Rattle.loes.specs.Bytes.{Bytes}
 use Rattle.loes.specs.Entry.{Entry, count, edgeCount, Valid}
 use Rattle.loes.specs.Refusals.{firstOf}
 use Rattle.loes.specs.Read.{opened, readTests, readingOf, read, entryIn}
-use Rattle.loes.specs.Model.{Outcome, refused, tells, refusal, refusedOr, tested, answers, opens}
+use Rattle.loes.specs.Model.{OutcomeOf, Outcome, refused, tells, refusal, refusedOr, tested, answers, opens}
 use Rattle.loes.specs.Calls.{afterReading, reading, openCall}
 use Rattle.loes.proofs.Reading.{reads-exactly}
 use Rattle.encoding.specs.declared.Encoding.{Encoding}
 use Rattle.encoding.specs.declared.Told.{Told}
 use Rattle.encoding.specs.Answers.{toldOutcome}
 use Rattle.encoding.specs.Opened.{Opens, Placed}
+use Rattle.build.specs.declared.Written.{Written}
+use Rattle.build.specs.declared.Written.the-variants as written
+use Rattle.build.specs.Writing.{writtenOutcome}
+use Rattle.weights.specs.Weights.{Weights, outputs}
+use Rattle.weights.specs.Answers.{weightedOutcome}
 use Rattle.capi.specs.declared.Answer.{Answer}
 use Rattle.capi.specs.declared.Opened.{Opened}
-use Rattle.capi.specs.Coded.{codeOf, gives, coded, Positive, opening, noOpening, openingOf, Tells}
+use Rattle.capi.specs.Coded.{codeOf, Given, gives, coded, Positive, opening, noOpening, openingOf, Tells}
 use Rattle.capi.proofs.NoZero.{zero-is-no-refusal}
 
-pub told : {r : Answer} (o : Outcome) → r ≡ codeOf (o .answer) → gives r (o .buffers) ≡ coded o
+pub told : {L : Type 0} {r : Answer} (o : OutcomeOf L) → r ≡ codeOf (o .answer) → gives r (o .buffers) ≡ coded o
 unfolding coded
 told o p = ap (λ (x : Answer). gives x (o .buffers)) p
 
 -- an answer by one of its cases
-pub by-case : {A : Type 0} {r : Answer} {a b : A} (f : A → Outcome) → a ≡ b → r ≡ codeOf (f b .answer) → gives r (f b .buffers) ≡ coded (f a)
+pub by-case : {A L : Type 0} {r : Answer} {a b : A} (f : A → OutcomeOf L) → a ≡ b → r ≡ codeOf (f b .answer) → gives r (f b .buffers) ≡ coded (f a)
 by-case f q p = told _ p ∙ ap (λ x. coded (f x)) (sym q)
 
-pub onward : {r : Answer} {bufs : List Bytes} {o o' : Outcome} → o ≡ o' → gives r bufs ≡ coded o → gives r bufs ≡ coded o'
+pub onward : {L : Type 0} {r : Answer} {bufs : L} {o o' : OutcomeOf L} → o ≡ o' → gives r bufs ≡ coded o → gives r bufs ≡ coded o'
 onward q p = p ∙ ap coded q
+
+-- what a call that writes answers, with its list
+pub with-list : {r : Answer} (a : Written) → ((out : Bytes) → gives r (out ∷ []) ≡ coded (writtenOutcome a out)) → (out : Bytes) (ws : Weights)
+    → gives r (outputs (out ∷ []) ws) ≡ coded (weightedOutcome a out ws)
+unfolding writtenOutcome coded
+with-list (written.Refused k) h out ws = ap (λ (g : Given (List Bytes)). gives (g .answer) (outputs (out ∷ []) ws)) (h out)
+with-list (written.Length n) h out ws = ap (λ (g : Given (List Bytes)). gives (g .answer) (outputs (out ∷ []) ws)) (h out)
 
 -- ---- Opening
 abbrev pub Opening : Bytes → Opened → Type 0

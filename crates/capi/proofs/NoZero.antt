@@ -1,18 +1,20 @@
--- No call is refused with 0: each test has one of the numbers 1 to 15.
+-- No call is refused with 0: each test has one of the numbers 1 to 17.
 use Prim.Native.Nat.{ℕ, _<_}
 use mathlib.Core.Bool.{Bool, true, false, cond}
 use mathlib.Core.List.{List, [], _∷_, _++_, flatten}
 use mathlib.Core.Option.{Option, none, some}
 use native.Mathlib.Omega.{arith}
+use lib.IntN.{ℤ}
 use lib.Dec.{eqb}
 use Rattle.loes.specs.Bytes.{Bytes}
 use Rattle.loes.specs.Keys.{Key, smaller}
 use Rattle.loes.specs.Entry.{Entry, keysOf, count}
 use Rattle.loes.specs.Refusals.{Tests, test, firstOf}
 use Rattle.loes.specs.Read.{fieldTests, headTests, tailTests, readTests, readingOf, read, entryIn}
-use Rattle.loes.specs.Model.{Answer, isPresent, isAbsent, isNone, indexIs, rankIs, Outcome, Step, refusal, refusedOr, tested, answers, writes, writesKey, keyIn, keyTest, belowTest, batchKeys, risingTests, packTests, pack, joinTests, union, difference, opens, contains, indexOf, keyAt, rankAt, lowerBound}
+use Rattle.loes.specs.Model.{Answer, isPresent, isAbsent, isNone, indexIs, rankIs, isPosted, OutcomeOf, StepOf, refusal, refusedOr, tested, answers, writes, writesKey, keyIn, keyTest, belowTest, batchKeys, risingTests, packTests, pack, joinTests, union, difference, opens, contains, indexOf, keyAt, rankAt, lowerBound}
 use Rattle.loes.specs.Calls.{afterReading, reading, openCall, packCall, unionCall, differenceCall, containsCall, indexOfCall, lowerBoundCall, keyAtCall, rankCall}
 use Rattle.loes.specs.Cursor.{Cursor, stays, goesTo, goesToAfter, staysOr, hasNext, nextKey, advanceTests, advance, advanceReading, advanceCall}
+use Rattle.weights.specs.Weights.{Weights, outputs, WeightedOutcome, leaving, checked, listTest, sumTest, writesWith, post, packWeightedCall, postCall, unionWeighted, unionWeightedCall, differenceWeighted, differenceWeightedCall}
 use Rattle.capi.specs.Coded.{Positive, ZeroIsNoRefusal}
 
 -- ---- Tests
@@ -72,7 +74,7 @@ cond-positive : (b : Bool) (x y : Answer) → Positive x → Positive y → Posi
 cond-positive true x y p q = p
 cond-positive false x y p q = q
 
-tested-positive : (ts : Tests) (bufs : List Bytes) (done : Step) → AllNumbered ts → Positive (done .outcome .answer) → Positive (tested ts bufs done .outcome .answer)
+tested-positive : {L : Type 0} (ts : Tests) (bufs : L) (done : StepOf L) → AllNumbered ts → Positive (done .outcome .answer) → Positive (tested ts bufs done .outcome .answer)
 unfolding tested
 tested-positive ts bufs done a p = go (firstOf ts) (first-numbered ts a)
   where
@@ -88,7 +90,7 @@ writes-positive : (ts : Tests) (es : List Entry) (bufs : List Bytes) → AllNumb
 unfolding writes
 writes-positive ts es bufs a = tested-positive _ bufs _ (append-numbered ts _ a (test-numbered _ 5 (omega arith), (test-numbered _ 14 (omega arith), tt))) tt
 
-reading-positive : (l : Bytes) (bufs : List Bytes) (next : Entry → Outcome) → ((e : Entry) → Positive (next e .answer)) → Positive (reading l bufs next .answer)
+reading-positive : {L : Type 0} (l : Bytes) (bufs : L) (next : Entry → OutcomeOf L) → ((e : Entry) → Positive (next e .answer)) → Positive (reading l bufs next .answer)
 unfolding reading read
 reading-positive l bufs next p = go (firstOf (readTests l)) (first-numbered (readTests l) (read-numbered l))
   where
@@ -178,6 +180,46 @@ step-positive l c out = go (firstOf (readTests l)) (first-numbered (readTests l)
     go none h = unfold readingOf advanceReading in advance-positive (entryIn l) c out
     go (some k) h = unfold readingOf advanceReading stays in h
 
+-- ---- With weights
+list-numbered : (e : Entry) (ws : Weights) → Numbered (listTest e ws)
+unfolding listTest
+list-numbered e ws = test-numbered _ 16 (omega arith)
+
+checked-positive : (ts : Tests) (bufs : List Bytes) (ws : Weights) (done : WeightedOutcome) → AllNumbered ts → Positive (done .answer) → Positive (checked ts bufs ws done .answer)
+unfolding checked
+checked-positive ts bufs ws done a p = tested-positive ts (outputs bufs ws) _ a p
+
+both-positive : (ts last : Tests) (e : Entry) (l : Weights) (out : Bytes) (ws : Weights) → AllNumbered ts → AllNumbered last → Positive (writesWith ts last e l out ws .answer)
+unfolding writesWith
+both-positive ts last e l out ws a b =
+    checked-positive _ (out ∷ []) ws _ (append-numbered ts _ a (test-numbered _ 5 (omega arith), (test-numbered _ 14 (omega arith), b))) tt
+
+posted-positive : (b : Bool) (u v : Weights) → Positive (cond b (leaving isPosted [] u) (leaving isAbsent [] v) .answer)
+posted-positive true u v = tt
+posted-positive false u v = tt
+
+post-positive : (l : Bytes) (ws : Weights) (x : Bytes) (amount : ℤ) → Positive (postCall l ws x amount .answer)
+unfolding postCall post
+post-positive l ws x amount =
+    reading-positive l _ _ (λ e.
+    checked-positive _ [] ws _ (list-numbered e ws, (key-numbered e x, (test-numbered _ 17 (omega arith), tt))) (posted-positive (e .set (keyIn (e .width) x)) _ ws))
+
+pack-weighted-positive : (m : ℕ) (batch out : Bytes) (ws : Weights) → Positive (packWeightedCall m batch out ws .answer)
+unfolding packWeightedCall
+pack-weighted-positive m batch out ws = both-positive _ [] _ _ out ws (pack-numbered m batch) tt
+
+union-weighted-positive : (a : Bytes) (wa : Weights) (b : Bytes) (wb : Weights) (out : Bytes) (ws : Weights) → Positive (unionWeightedCall a wa b wb out ws .answer)
+unfolding unionWeightedCall unionWeighted sumTest
+union-weighted-positive a wa b wb out ws =
+    reading-positive a _ _ (λ e. reading-positive b _ _ (λ f.
+    both-positive _ _ _ _ out ws (append-numbered (joinTests e f) _ (join-tests e f) (list-numbered e wa, (list-numbered f wb, tt))) (test-numbered _ 17 (omega arith), tt)))
+
+difference-weighted-positive : (a : Bytes) (wa : Weights) (b out : Bytes) (ws : Weights) → Positive (differenceWeightedCall a wa b out ws .answer)
+unfolding differenceWeightedCall differenceWeighted
+difference-weighted-positive a wa b out ws =
+    reading-positive a _ _ (λ e. reading-positive b _ _ (λ f.
+    both-positive _ [] _ _ out ws (append-numbered (joinTests e f) _ (join-tests e f) (list-numbered e wa, tt)) tt))
+
 pub zero-is-no-refusal : ZeroIsNoRefusal
 zero-is-no-refusal =
     record {
@@ -191,4 +233,8 @@ zero-is-no-refusal =
       keyAt = key-positive;
       rank = rank-positive;
       advance = step-positive;
+      post = post-positive;
+      packWeighted = pack-weighted-positive;
+      unionWeighted = union-weighted-positive;
+      differenceWeighted = difference-weighted-positive;
     }

@@ -3,11 +3,13 @@ use mathlib.Core.Path.{_≡_}
 use Prim.Native.Nat.{ℕ, _<_}
 use mathlib.Core.Bool.{cond}
 use mathlib.Core.List.{List, [], _∷_}
+use lib.IntN.{ℤ}
 use lib.Dec.{eqb}
 use Rattle.loes.specs.Bytes.{Bytes}
 use Rattle.loes.specs.Model as model
 use Rattle.loes.specs.Calls.{openCall, packCall, unionCall, differenceCall, containsCall, indexOfCall, lowerBoundCall, keyAtCall, rankCall}
 use Rattle.loes.specs.Cursor.{Cursor, advanceCall}
+use Rattle.weights.specs.Weights.{Weights, packWeightedCall, postCall, unionWeightedCall, differenceWeightedCall}
 use Rattle.capi.specs.declared.Answer.{Answer}
 use Rattle.capi.specs.declared.Opened.{Opened}
 
@@ -27,7 +29,7 @@ abbrev pub lengthIn : List ℕ → ℕ
 lengthIn [] = 0
 lengthIn (n ∷ ns) = n
 
--- present is 1; a step to after writes no key; opening has an answer of its own, below
+-- present and posted are 1; a step to after writes no key; opening has an answer of its own, below
 abbrev pub codeOf : model.Answer → Answer
 codeOf (model.refused k) = refuses k
 codeOf (model.wrote ns) = says (lengthIn ns)
@@ -36,6 +38,7 @@ codeOf (model.tells m n b) = says m
 codeOf model.isPresent = says 1
 codeOf model.isAbsent = nothing
 codeOf model.isNone = nothing
+codeOf model.isPosted = says 1
 codeOf (model.indexIs i) = says i
 codeOf (model.rankIs r) = says r
 
@@ -48,6 +51,7 @@ Positive (model.tells m n b) = Unit {0}
 Positive model.isPresent = Unit {0}
 Positive model.isAbsent = Unit {0}
 Positive model.isNone = Unit {0}
+Positive model.isPosted = Unit {0}
 Positive (model.indexIs i) = Unit {0}
 Positive (model.rankIs r) = Unit {0}
 
@@ -63,17 +67,21 @@ pub record ZeroIsNoRefusal : Type 0 where
   pub keyAt : (l : Bytes) (i : ℕ) (out : Bytes) → Positive (keyAtCall l i out .answer)
   pub rank : (l : Bytes) (o : ℕ) → Positive (rankCall l o .answer)
   pub advance : (l : Bytes) (c : Cursor) (out : Bytes) → Positive (advanceCall l c out .answer)
+  pub post : (l : Bytes) (ws : Weights) (x : Bytes) (amount : ℤ) → Positive (postCall l ws x amount .answer)
+  pub packWeighted : (m : ℕ) (batch out : Bytes) (ws : Weights) → Positive (packWeightedCall m batch out ws .answer)
+  pub unionWeighted : (a : Bytes) (wa : Weights) (b : Bytes) (wb : Weights) (out : Bytes) (ws : Weights) → Positive (unionWeightedCall a wa b wb out ws .answer)
+  pub differenceWeighted : (a : Bytes) (wa : Weights) (b out : Bytes) (ws : Weights) → Positive (differenceWeightedCall a wa b out ws .answer)
 
 -- ---- Calls
--- a call's answer, and its lent buffers at exit
-pub record Given : Type 0 where
+-- a call's answer, and what it was lent for output, at exit
+pub record Given (L : Type 0) : Type 0 where
   pub answer : Answer
-  pub buffers : List Bytes
+  pub buffers : L
 
-abbrev pub gives : Answer → List Bytes → Given
+abbrev pub gives : {L : Type 0} → Answer → L → Given L
 gives r bufs = record { answer = r; buffers = bufs }
 
-unfoldable pub coded : model.Outcome → Given
+unfoldable pub coded : {L : Type 0} → model.OutcomeOf L → Given L
 coded o = gives (codeOf (o .answer)) (o .buffers)
 
 -- ---- Opening
@@ -93,6 +101,7 @@ openingOf (model.wroteKey n) = noOpening 0
 openingOf model.isPresent = noOpening 0
 openingOf model.isAbsent = noOpening 0
 openingOf model.isNone = noOpening 0
+openingOf model.isPosted = noOpening 0
 openingOf (model.indexIs i) = noOpening 0
 openingOf (model.rankIs r) = noOpening 0
 

@@ -16,6 +16,8 @@ ghost use Rattle.query.specs.Answers as query;
 ghost use Rattle.cursor.specs.Steps as cursor;
 ghost use Rattle.cursor.specs.Steps.{numbers};
 ghost use Rattle.build.specs.Writing as build;
+ghost use Rattle.weights.specs.Weights.{Weights, outputs, packWeightedCall, postCall, unionWeightedCall, differenceWeightedCall};
+ghost use Rattle.weights.specs.Answers as weights;
 ghost use Rattle.capi.specs.Coded.{refuses, says, nothing, codeOf, gives, coded, opening, noOpening, openingOf, Tells};
 ghost use Rattle.capi.specs.Steps.{stepGives, cursorGives, moves, stateCode, stateIn, cursorIn, isState, stepCoded, stepAfter, stepCall, cursorCall, walkCall};
 use bits::EdgeOffset;
@@ -42,6 +44,9 @@ const NOT_REFUSED: u32 = 0;
 
 // The value of a key that is present.
 const PRESENT: usize = 1;
+
+// The value of an amount that was posted.
+const POSTED: usize = 1;
 
 // A cursor's states.
 const BEFORE: usize = 0;
@@ -185,6 +190,16 @@ fn written(a: build::Written) -> Answer
     }
 }
 
+fn posting(a: weights::Posting) -> Answer
+    ensures { λ r. ⌜ ((ws : Weights) → gives r (outputs [] ws) ≡ coded (weights.postingOutcome a ws)) ⌝ }
+{
+    match a {
+        weights::Posting::Refused(k) => refused(k),
+        weights::Posting::Posted => value(POSTED),
+        weights::Posting::Absent => absent(),
+    }
+}
+
 // ---- Opening
 fn numbers_told(width: usize, count: usize, bits: usize) -> Opened
     requires { ⌜ width ≤ maxWidth ⌝ }
@@ -284,6 +299,57 @@ pub extern "C" fn loes_rank(l: &[u8], offset: EdgeOffset) -> Answer
     ensures { λ r. ⌜ gives r [] ≡ coded (rankCall (now (l .entry)) (offset .0)) ⌝ }
 {
     ranked(encoding::rank(l, offset))
+}
+
+// ---- Weights
+// Adds an amount to a member's weight: 1, or absent.
+#[no_mangle]
+pub extern "C" fn loes_post(l: &[u8], list: &mut [i32], key: &[u8], amount: i32) -> Answer
+    ensures { λ r. ⌜ gives r (outputs [] (now (list .exit))) ≡ coded (postCall (now (l .entry)) (now (list .entry)) (now (key .entry)) amount) ⌝ }
+{
+    posting(weights::post(l, list, key, amount))
+}
+
+// The encoding of a batch's keys, and a list of zeros.
+#[no_mangle]
+pub extern "C" fn loes_pack_weighted(
+    width: usize,
+    batch: &[u8],
+    out: &mut [u8],
+    list: &mut [i32],
+) -> Answer
+    ensures { λ r. ⌜ gives r (outputs (now (out .exit) ∷ []) (now (list .exit))) ≡ coded (packWeightedCall width (now (batch .entry)) (now (out .entry)) (now (list .entry))) ⌝ }
+{
+    written(weights::pack_weighted(width, batch, out, list))
+}
+
+// The keys in either set, and their weights.
+#[no_mangle]
+pub extern "C" fn loes_union_weighted(
+    a: &[u8],
+    wa: &[i32],
+    b: &[u8],
+    wb: &[i32],
+    out: &mut [u8],
+    list: &mut [i32],
+) -> Answer
+    ensures { λ r. ⌜ gives r (outputs (now (out .exit) ∷ []) (now (list .exit))) ≡ coded (unionWeightedCall (now (a .entry)) (now (wa .entry)) (now (b .entry)) (now (wb .entry)) (now (out .entry)) (now (list .entry))) ⌝ }
+{
+    written(weights::union_weighted(a, wa, b, wb, out, list))
+}
+
+// The keys in the first set but not in the second, and their weights.
+#[no_mangle]
+pub extern "C" fn loes_difference_weighted(
+    a: &[u8],
+    wa: &[i32],
+    b: &[u8],
+    out: &mut [u8],
+    list: &mut [i32],
+) -> Answer
+    ensures { λ r. ⌜ gives r (outputs (now (out .exit) ∷ []) (now (list .exit))) ≡ coded (differenceWeightedCall (now (a .entry)) (now (wa .entry)) (now (b .entry)) (now (out .entry)) (now (list .entry))) ⌝ }
+{
+    written(weights::difference_weighted(a, wa, b, out, list))
 }
 
 // ---- The cursor
@@ -460,6 +526,24 @@ pub extern "C" fn loes_unchecked_rank(
     let t = bits::tallies();
     let e = Encoding::new(width, count, bits);
     ranked(encoding::rank_in(l, &t, e, offset))
+}
+
+#[no_mangle]
+pub extern "C" fn loes_unchecked_post(
+    width: usize,
+    count: usize,
+    bits: usize,
+    l: &[u8],
+    list: &mut [i32],
+    key: &[u8],
+    amount: i32,
+) -> Answer
+    requires { ⌜ Tells width count bits (now l) ⌝ }
+    ensures { λ r. ⌜ gives r (outputs [] (now (list .exit))) ≡ coded (postCall (now (l .entry)) (now (list .entry)) (now (key .entry)) amount) ⌝ }
+{
+    let t = bits::tallies();
+    let e = Encoding::new(width, count, bits);
+    posting(weights::post_in(l, &t, e, list, key, amount))
 }
 
 // ---- Steps behind the check over lent offsets

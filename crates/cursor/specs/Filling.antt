@@ -7,7 +7,7 @@ use lib.Dec.{eqb, ltb}
 use Rattle.loes.specs.Bytes.{Bytes, packBits, front}
 use Rattle.loes.specs.Keys.{Key}
 use Rattle.loes.specs.Entry.{Entry, keyBytes}
-use Rattle.loes.specs.Model.{Answer, refused, wrote, wroteKey, tells, isPresent, isAbsent, isNone, indexIs, rankIs}
+use Rattle.loes.specs.Model.{Answer, refused, wrote, wroteKey, tells, isPresent, isAbsent, isNone, isPosted, indexIs, rankIs}
 use Rattle.loes.specs.Cursor.{Cursor, Advanced, hasNext, nextKey, goesTo, goesToAfter, advance}
 
 -- the bytes of the key that a step wrote: none if it was refused; no step has another answer
@@ -19,6 +19,7 @@ bytesIn (tells m n b) = 0
 bytesIn isPresent = 0
 bytesIn isAbsent = 0
 bytesIn isNone = 0
+bytesIn isPosted = 0
 bytesIn (indexIs i) = 0
 bytesIn (rankIs r) = 0
 

@@ -2,7 +2,7 @@
 use mathlib.Core.Path.{_≡_, refl, sym, ap, ap₂, _∙_, subst}
 use Prim.Native.Nat.{ℕ, _+_, _*_, _-_, _/_, _≤_, _<_}
 use mathlib.Core.Bool.{Bool, true, false, not, cond}
-use mathlib.Core.List.{List, [], _∷_}
+use mathlib.Core.List.{[], _∷_}
 use native.Mathlib.Omega.{arith}
 use lib.ListN.{length, take, drop, take-append-drop, length-drop}
 use lib.Seq.{length-take-le}
@@ -12,10 +12,11 @@ use Rattle.loes.specs.Limits.{maxEdges}
 use Rattle.loes.specs.Bytes.{Bytes, started, packBits, bitsIn}
 use Rattle.loes.specs.Keys.{Key, either, without}
 use Rattle.loes.specs.Entry.{Entry, edgesOf, edgeCount, withSet, Valid}
+use mathlib.Core.Option.{none, some, Option·some-injective}
 use Rattle.loes.specs.Refusals.{twoWidths, test, firstOf}
-use Rattle.loes.specs.Read.{rejected, opened, read, entryIn, start5, start6}
+use Rattle.loes.specs.Read.{Reading, rejected, opened, read, entryIn, start5, start6}
 use Rattle.loes.specs.Held.{entryHeld, Holds}
-use Rattle.loes.specs.Model.{Outcome, refusal, joinTests, writes}
+use Rattle.loes.specs.Model.{OutcomeOf, refusal, joinTests, writes}
 use Rattle.loes.specs.Calls.{reading, afterReading}
 use Rattle.loes.proofs.Tests.{eq-yes, yes-eq, both}
 use Rattle.loes.proofs.Reading.{bits-front, along-sized}
@@ -34,14 +35,10 @@ use Rattle.records.proofs.Sealing.{written-bits, written-room}
 use Rattle.join.specs.declared.Join.{Join}
 use Rattle.join.specs.declared.Join.the-variants as join
 use Rattle.join.specs.declared.Pair.the-variants as pair
-use Rattle.join.specs.Joining.{joinOf, joinCall, pairOf, Both, Joined}
+use Rattle.join.specs.Joining.{joinOf, joinCall, pairOf, pairRefusal, Both, Joined}
 
 -- ---- Two checks
-reading-rejected : (l : Bytes) (bufs : List Bytes) (next : Entry → Outcome) (k : ℕ) → read l ≡ rejected k → reading l bufs next ≡ refusal k bufs .outcome
-unfolding reading afterReading
-reading-rejected l bufs next k h = rw h
-
-reading-opened : (l : Bytes) (bufs : List Bytes) (next : Entry → Outcome) (e : Entry) → read l ≡ opened e → reading l bufs next ≡ next e
+reading-opened : {L : Type 0} (l : Bytes) (bufs : L) (next : Entry → OutcomeOf L) (e : Entry) → read l ≡ opened e → reading l bufs next ≡ next e
 unfolding reading afterReading
 reading-opened l bufs next e h = rw h
 
@@ -51,24 +48,43 @@ call-opened : (op : Entry → Entry → Entry) (a b out : Bytes) → read a ≡ 
 unfolding joinCall
 call-opened op a b out h g = reading-opened a (out ∷ []) _ (entryIn a) h ∙ reading-opened b (out ∷ []) _ (entryIn b) g
 
+-- two widths are 13, one is none
+pub widths-differ : (e f : Entry) → eqb (e .width) (f .width) ≡ false → firstOf (joinTests e f) ≡ some twoWidths
+unfolding joinTests firstOf test
+widths-differ e f h = rw h
+
+pub widths-same : (e f : Entry) → e .width ≡ f .width → firstOf (joinTests e f) ≡ none
+unfolding joinTests firstOf test
+widths-same e f h = rw (h, eq-yes (f .width))
+
 pub both-is : (a b : Bytes) (first second : Checked) → Checks a first → Checks b second → Both a b (pairOf first second)
-unfolding joinCall
-both-is a b (checked.Refused k) s h g = λ op out. reading-rejected a (out ∷ []) _ k h
-both-is a b (checked.Opened e) (checked.Refused k) h g = λ op out. reading-opened a (out ∷ []) _ (entryIn a) (h .reads) ∙ reading-rejected b (out ∷ []) _ k g
+unfolding pairRefusal
+both-is a b (checked.Refused k) s h g = rw h
+both-is a b (checked.Opened e) (checked.Refused k) h g = rw (h .reads, g)
 both-is a b (checked.Opened e) (checked.Opened f) h g = go (eqb (e .width) (f .width)) refl
   where
-    two : (op : Entry → Entry → Entry) (out : Bytes) → eqb (entryIn a .width) (entryIn b .width) ≡ false → joinCall op a b out ≡ refusal twoWidths (out ∷ []) .outcome
-    two op out z =
-        call-opened op a b out (h .reads) (g .reads)
-        ∙ ap (λ x. x .outcome) (writes-refused (joinTests (entryIn a) (entryIn b)) _ (out ∷ []) twoWidths (unfold joinTests firstOf test in rw z))
-
     go : (w : Bool) → eqb (e .width) (f .width) ≡ w → Both a b (cond w (pair.Opened e f) (pair.Refused twoWidths))
     go true z = (h, g, yes-eq (e .width) (f .width) z)
-    go false z = λ op out. two op out (sym (ap₂ eqb (h .width) (g .width)) ∙ z)
+    go false z = rw (h .reads, g .reads) (widths-differ (entryIn a) (entryIn b) (sym (ap₂ eqb (h .width) (g .width)) ∙ z))
+
+-- two encodings that are refused are refused by every call that reads both and then tests 13
+pub pair-refused : {L : Type 0} (a b : Bytes) (k : ℕ) (bufs : L) (next : Entry → Entry → OutcomeOf L) → pairRefusal (read a) (read b) ≡ some k
+    → ((e f : Entry) → firstOf (joinTests e f) ≡ some k → next e f ≡ refusal k bufs .outcome) → reading a bufs (λ e. reading b bufs (next e)) ≡ refusal k bufs .outcome
+unfolding reading afterReading pairRefusal
+pair-refused {L} a b k bufs next h g = go (read a) (read b) h
+  where
+    go : (r s : Reading) → pairRefusal r s ≡ some k → afterReading r bufs (λ e. afterReading s bufs (next e)) ≡ refusal k bufs .outcome
+    go (rejected j) s z = ap (λ x. refusal x bufs .outcome) (Option·some-injective j k z)
+    go (opened e) (rejected j) z = ap (λ x. refusal x bufs .outcome) (Option·some-injective j k z)
+    go (opened e) (opened f) z = g e f z
+
+pub join-refused : (op : Entry → Entry → Entry) (a b out : Bytes) (k : ℕ) → pairRefusal (read a) (read b) ≡ some k → joinCall op a b out ≡ refusal k (out ∷ []) .outcome
+unfolding joinCall
+join-refused op a b out k h = pair-refused a b k (out ∷ []) _ h (λ e f z. ap (λ x. x .outcome) (writes-refused (joinTests e f) _ (out ∷ []) k z))
 
 -- ---- The edges of a join
 -- the entry asked for has keys of its width only
-join-sized : (kind : Join) (e f : Entry) → Valid e → Valid f → e .width ≡ f .width → (k : Key) → joinOf kind e f .set k ≡ true → length k ≡ e .width
+pub join-sized : (kind : Join) (e f : Entry) → Valid e → Valid f → e .width ≡ f .width → (k : Key) → joinOf kind e f .set k ≡ true → length k ≡ e .width
 join-sized join.Union e f v w z k = unfold withSet either in go (e .set k) refl
   where
     go : (b : Bool) → e .set k ≡ b → either (e .set) (f .set) k ≡ true → length k ≡ e .width
@@ -138,10 +154,10 @@ unfolding start5 start6 started
 opens-over l e p = rw (rest-is l (e .edges), length-drop (e .edges) l) (omega (arith, opens-room l e p .sub-blocks, p .edges, p .sub-blocks, p .bits))
 
 module _ (kind : Join) (a b : Bytes) (e f : Encoding) (p : Opens a e) (q : Opens b f) (w : e .width ≡ f .width) where
-  abbrev first : Bytes
+  abbrev pub first : Bytes
   first = take (length a - e .edges) (drop (e .edges) a)
 
-  abbrev second : Bytes
+  abbrev pub second : Bytes
   second = take (length b - f .edges) (drop (f .edges) b)
 
   pub first-holds : Holds (e .width) (e .bits) first
@@ -150,13 +166,13 @@ module _ (kind : Join) (a b : Bytes) (e f : Encoding) (p : Opens a e) (q : Opens
   pub second-holds : Holds (e .width) (f .bits) second
   second-holds = rw (rest-is b (f .edges), w) (opens-holds b f q)
 
-  first-held : entryHeld (e .width) (e .bits) first ≡ entryIn a
+  pub first-held : entryHeld (e .width) (e .bits) first ≡ entryIn a
   first-held = rw (rest-is a (e .edges)) (opens-held a e p)
 
-  second-held : entryHeld (e .width) (f .bits) second ≡ entryIn b
+  pub second-held : entryHeld (e .width) (f .bits) second ≡ entryIn b
   second-held = rw (rest-is b (f .edges), w) (opens-held b f q)
 
-  same-width : entryIn a .width ≡ entryIn b .width
+  pub same-width : entryIn a .width ≡ entryIn b .width
   same-width = sym (p .width) ∙ w ∙ q .width
 
   abbrev asked : Entry
@@ -181,11 +197,11 @@ module _ (kind : Join) (a b : Bytes) (e f : Encoding) (p : Opens a e) (q : Opens
     pub joined : Joined (e .width) k new
     joined = rw (← asked-width) (join-joined asked positive sized old new k made (omega (arith, join-width kind (entryIn a) (entryIn b), valid .narrow)))
 
-    held-asked : entryHeld (e .width) k new ≡ asked
+    pub held-asked : entryHeld (e .width) k new ≡ asked
     held-asked = rw (← asked-width) (join-held asked positive sized old new k made)
 
     pub joined-call : (out : Bytes) → writes [] (entryHeld (e .width) k new ∷ []) (out ∷ []) .outcome ≡ joinCall (joinOf kind) a b out
     joined-call out =
         ap (λ x. writes [] (x ∷ []) (out ∷ []) .outcome) held-asked
-        ∙ ap (λ x. x .outcome) (sym (writes-on (joinTests (entryIn a) (entryIn b)) (asked ∷ []) (out ∷ []) (unfold joinTests firstOf test in rw (same-width, eq-yes (entryIn b .width)))))
+        ∙ ap (λ x. x .outcome) (sym (writes-on (joinTests (entryIn a) (entryIn b)) (asked ∷ []) (out ∷ []) (widths-same (entryIn a) (entryIn b) same-width)))
         ∙ sym (call-opened (joinOf kind) a b out (p .reads) (q .reads))

@@ -3,14 +3,16 @@ use mathlib.Core.Path.{_≡_}
 use Prim.Native.Nat.{ℕ, _+_, _*_, _/_, _<_, _≤_}
 use mathlib.Core.Bool.{cond}
 use mathlib.Core.List.{[], _∷_}
+use mathlib.Core.Option.{Option, some}
 use lib.ListN.{length, take}
 use lib.Dec.{eqb}
 use Rattle.loes.specs.Limits.{maxWidth, maxEdges}
 use Rattle.loes.specs.Bytes.{Bytes, started, packBits, bitsIn}
 use Rattle.loes.specs.Entry.{Entry, edgesOf}
-use Rattle.loes.specs.Refusals.{twoWidths}
+use Rattle.loes.specs.Refusals.{twoWidths, firstOf}
+use Rattle.loes.specs.Read.{Reading, rejected, opened, read}
 use Rattle.loes.specs.Held.{entryHeld}
-use Rattle.loes.specs.Model.{Outcome, refusal, joinTests, writes, unionEntry, differenceEntry}
+use Rattle.loes.specs.Model.{Outcome, joinTests, writes, unionEntry, differenceEntry}
 use Rattle.loes.specs.Calls.{reading}
 use Rattle.encoding.specs.Opened.{Opens}
 use Rattle.records.specs.Numbers.{overwrite}
@@ -37,9 +39,15 @@ pairOf (checked.Refused k) s = pair.Refused k
 pairOf (checked.Opened e) (checked.Refused k) = pair.Refused k
 pairOf (checked.Opened e) (checked.Opened f) = cond (eqb (e .width) (f .width)) (pair.Opened e f) (pair.Refused twoWidths)
 
--- refused whatever is asked for, or two encodings of one width
+-- the first refusal of two encodings: the first's, the second's, 13
+unfoldable pub pairRefusal : Reading → Reading → Option ℕ
+pairRefusal (rejected k) r = some k
+pairRefusal (opened e) (rejected k) = some k
+pairRefusal (opened e) (opened f) = firstOf (joinTests e f)
+
+-- they are refused, whatever is asked for, or two of one width
 abbrev pub Both : Bytes → Bytes → Pair → Type 0
-Both a b (pair.Refused k) = (op : Entry → Entry → Entry) (out : Bytes) → joinCall op a b out ≡ refusal k (out ∷ []) .outcome
+Both a b (pair.Refused k) = pairRefusal (read a) (read b) ≡ some k
 Both a b (pair.Opened e f) = Opens a e × Opens b f × (e .width ≡ f .width)
 
 -- k edge bits hold an entry, and what is left of their last byte is clear; they may be too many

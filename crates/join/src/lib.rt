@@ -5,18 +5,22 @@ ghost use mathlib.Core.List.{[], _∷_};
 ghost use lib.ListN.{length};
 ghost use Rattle.loes.specs.Entry.{edgesOf};
 ghost use Rattle.loes.specs.Held.{entryHeld, Holds};
-ghost use Rattle.loes.specs.Model.{writes, unionEntry, differenceEntry};
+ghost use Rattle.loes.specs.Model.{writes, unionEntry};
 ghost use Rattle.loes.specs.Calls.{unionCall, differenceCall};
 ghost use Rattle.bits.specs.Tables.{Tallies};
 ghost use Rattle.build.specs.Writing.{writtenOutcome};
 ghost use Rattle.records.specs.Records.{Packed};
 ghost use Rattle.records.specs.Numbers.{overread};
-ghost use Rattle.merge.specs.Union.{QueueRoom};
+ghost use Rattle.merge.specs.Union.{QueueRoom, Merged};
+ghost use Rattle.restrict.specs.Restriction.{Subtracts};
 ghost use Rattle.join.specs.Joining.{pairOf, Both, joinOf, Joined, tiny, small, middle, large, queueFor, edgesFor, Rooms, joinCall};
+use bits::RecordIndex;
 use build::Written;
 use encoding::Checked;
 use encoding::Encoding;
 use loes::refusal;
+use merge::Sizes;
+use restrict::Remainder;
 
 // Which of the two.
 pub enum Join {
@@ -50,7 +54,7 @@ fn pair_of(first: Checked, second: Checked) -> Pair
 }
 
 // Both are checked, the first first.
-fn open_both(a: &[u8], b: &[u8], t: &[u8]) -> Pair
+pub fn open_both(a: &[u8], b: &[u8], t: &[u8]) -> Pair
     requires { ⌜ Tallies (now t) ⌝ }
     ensures { λ r. ⌜ Both (now (a .entry)) (now (b .entry)) r ⌝ }
 {
@@ -66,25 +70,38 @@ const UNION_LEVEL: usize = 16;
 
 const DIFFERENCE_LEVEL: usize = 8;
 
-// The edges of the union of the sets that two edge sequences hold, with tables where they pay.
+// The sets that two edge sequences hold, merged, with tables where they pay.
+pub fn merged(m: usize, a: &[u8], ba: usize, b: &[u8], bb: usize, q: &mut [u8]) -> Sizes
+    requires { ⌜ Holds m ba (now a) × (ba / 2 + overread ≤ 4 * length (now a)) ⌝ }
+    requires { ⌜ Holds m bb (now b) × (bb / 2 + overread ≤ 4 * length (now b)) ⌝ }
+    requires { ⌜ QueueRoom ba bb (now q) ⌝ }
+    ensures { λ r. ⌜ Merged (entryHeld m ba (now (a .entry))) (entryHeld m bb (now (b .entry))) (now (q .entry)) (now (q .exit)) (r .edges) (r .members) ⌝ }
+{
+    if ba + bb < UNION_LEVEL * m + TABLES_FROM {
+        return merge::merge(m, a, ba, b, bb, &[], &[], &[], q);
+    }
+    let mut spreads = [0; join_tables::SPREAD_ENTRIES];
+    let mut parts = [0; join_tables::PART_ENTRIES];
+    let mut runs = [0; join_tables::RUN_ENTRIES];
+    join_tables::fill(&mut spreads, &mut parts, &mut runs);
+    merge::merge(m, a, ba, b, bb, &spreads, &parts, &runs, q)
+}
+
+// The edges of the union alone, and what is left of their last byte cleared: how many bits they are.
 fn united(m: usize, a: &[u8], ba: usize, b: &[u8], bb: usize, q: &mut [u8]) -> usize
     requires { ⌜ Holds m ba (now a) × (ba / 2 + overread ≤ 4 * length (now a)) ⌝ }
     requires { ⌜ Holds m bb (now b) × (bb / 2 + overread ≤ 4 * length (now b)) ⌝ }
     requires { ⌜ QueueRoom ba bb (now q) ⌝ }
     ensures { λ k. ⌜ Packed (edgesOf (unionEntry (entryHeld m ba (now (a .entry))) (entryHeld m bb (now (b .entry))))) (now (q .entry)) (now (q .exit)) k ⌝ }
 {
-    if ba + bb < UNION_LEVEL * m + TABLES_FROM {
-        return merge::unite(m, a, ba, b, bb, &[], &[], &[], q);
-    }
-    let mut spreads = [0; join_tables::SPREAD_ENTRIES];
-    let mut parts = [0; join_tables::PART_ENTRIES];
-    let mut runs = [0; join_tables::RUN_ENTRIES];
-    join_tables::fill(&mut spreads, &mut parts, &mut runs);
-    merge::unite(m, a, ba, b, bb, &spreads, &parts, &runs, q)
+    let u = merged(m, a, ba, b, bb, q);
+    let k = u.edges;
+    records::seal(q, RecordIndex(k / 2));
+    k
 }
 
-// The same of the difference.
-fn subtracted(
+// The edges of the difference, with tables where they pay; the flags of the union's members stay in the queue.
+pub fn subtracted(
     m: usize,
     a: &[u8],
     ba: usize,
@@ -92,11 +109,11 @@ fn subtracted(
     bb: usize,
     q: &mut [u8],
     edges: &mut [u8],
-) -> usize
+) -> Remainder
     requires { ⌜ Holds m ba (now a) × (ba / 2 + overread ≤ 4 * length (now a)) ⌝ }
     requires { ⌜ Holds m bb (now b) × (bb / 2 + overread ≤ 4 * length (now b)) ⌝ }
     requires { ⌜ QueueRoom ba bb (now q) × (ba < 8 * length (now edges)) ⌝ }
-    ensures { λ k. ⌜ Packed (edgesOf (differenceEntry (entryHeld m ba (now (a .entry))) (entryHeld m bb (now (b .entry))))) (now (edges .entry)) (now (edges .exit)) k ⌝ }
+    ensures { λ k. ⌜ Subtracts (entryHeld m ba (now (a .entry))) (entryHeld m bb (now (b .entry))) (now (q .entry)) (now (edges .entry)) (now (q .exit)) (now (edges .exit)) (k .edges) (k .flags .0) (k .flagged) ⌝ }
 {
     if ba + bb < DIFFERENCE_LEVEL * m + TABLES_FROM {
         return restrict::subtract(m, a, ba, b, bb, &[], &[], &[], q, edges);
@@ -145,8 +162,8 @@ fn join_with(
                     write_joined(e.width, k, q, t, out)
                 }
                 Join::Difference => {
-                    let k = subtracted(e.width, &a[from..], e.bits, &b[other..], f.bits, q, edges);
-                    write_joined(e.width, k, edges, t, out)
+                    let d = subtracted(e.width, &a[from..], e.bits, &b[other..], f.bits, q, edges);
+                    write_joined(e.width, d.edges, edges, t, out)
                 }
             }
         }
@@ -160,21 +177,21 @@ const QUEUE_BYTES: usize = 4;
 const SPARE: usize = 8 + 1;
 
 // The greatest n of tiny encodings.
-const TINY: usize = 512;
+pub const TINY: usize = 512;
 
 const TINY_QUEUE: usize = QUEUE_BYTES * TINY + SPARE;
 
 const TINY_EDGES: usize = TINY + SPARE;
 
 // Of small ones.
-const SMALL: usize = 2048;
+pub const SMALL: usize = 2048;
 
 const SMALL_QUEUE: usize = QUEUE_BYTES * SMALL + SPARE;
 
 const SMALL_EDGES: usize = SMALL + SPARE;
 
 // Of those of middle size.
-const MIDDLE: usize = 16384;
+pub const MIDDLE: usize = 16384;
 
 const MIDDLE_QUEUE: usize = QUEUE_BYTES * MIDDLE + SPARE;
 
@@ -188,49 +205,49 @@ const LARGE_QUEUE: usize = QUEUE_BYTES * LARGE + SPARE;
 const LARGE_EDGES: usize = LARGE + SPARE;
 
 // The rooms, cleared.
-fn tiny_queue() -> [u8; TINY_QUEUE]
+pub fn tiny_queue() -> [u8; TINY_QUEUE]
     ensures { λ r. ⌜ length r ≡ queueFor tiny ⌝ }
 {
     [0; TINY_QUEUE]
 }
 
-fn tiny_edges() -> [u8; TINY_EDGES]
+pub fn tiny_edges() -> [u8; TINY_EDGES]
     ensures { λ r. ⌜ length r ≡ edgesFor tiny ⌝ }
 {
     [0; TINY_EDGES]
 }
 
-fn small_queue() -> [u8; SMALL_QUEUE]
+pub fn small_queue() -> [u8; SMALL_QUEUE]
     ensures { λ r. ⌜ length r ≡ queueFor small ⌝ }
 {
     [0; SMALL_QUEUE]
 }
 
-fn small_edges() -> [u8; SMALL_EDGES]
+pub fn small_edges() -> [u8; SMALL_EDGES]
     ensures { λ r. ⌜ length r ≡ edgesFor small ⌝ }
 {
     [0; SMALL_EDGES]
 }
 
-fn middle_queue() -> [u8; MIDDLE_QUEUE]
+pub fn middle_queue() -> [u8; MIDDLE_QUEUE]
     ensures { λ r. ⌜ length r ≡ queueFor middle ⌝ }
 {
     [0; MIDDLE_QUEUE]
 }
 
-fn middle_edges() -> [u8; MIDDLE_EDGES]
+pub fn middle_edges() -> [u8; MIDDLE_EDGES]
     ensures { λ r. ⌜ length r ≡ edgesFor middle ⌝ }
 {
     [0; MIDDLE_EDGES]
 }
 
-fn large_queue() -> [u8; LARGE_QUEUE]
+pub fn large_queue() -> [u8; LARGE_QUEUE]
     ensures { λ r. ⌜ length r ≡ queueFor large ⌝ }
 {
     [0; LARGE_QUEUE]
 }
 
-fn large_edges() -> [u8; LARGE_EDGES]
+pub fn large_edges() -> [u8; LARGE_EDGES]
     ensures { λ r. ⌜ length r ≡ edgesFor large ⌝ }
 {
     [0; LARGE_EDGES]
@@ -280,7 +297,7 @@ fn join_large(kind: Join, a: &[u8], b: &[u8], out: &mut [u8]) -> Written
 }
 
 // The longer of two lengths.
-fn longer(x: usize, y: usize) -> usize
+pub fn longer(x: usize, y: usize) -> usize
     ensures { λ r. ⌜ (x ≤ r) × (y ≤ r) ⌝ }
 {
     if x < y { y } else { x }

@@ -3,7 +3,7 @@ use mathlib.Core.Path.{_≡_, refl, sym, ap, ap₂, _∙_, fun-ext}
 use mathlib.Core.Logic.{_↔_}
 use Prim.Native.Nat.{ℕ, zero, suc, _≤_, _<_}
 use mathlib.Core.Bool.{Bool, true, false, _||_, not, false≢true, or-false}
-use mathlib.Core.List.{List, [], _∷_, _++_, map}
+use mathlib.Core.List.{List, [], _∷_, _++_, map, map-append}
 use mathlib.Core.Option.{Option, none, some}
 use native.Mathlib.Omega.{arith}
 use lib.ListN.{length, drop, getD, length-map}
@@ -16,7 +16,7 @@ use Rattle.loes.specs.Entry.{Entry, SameEntry, withSet, edgeCount, wrong
 use Rattle.loes.specs.Encode.{encode}
 use Rattle.loes.specs.Refusals.{Tests, test, firstOf}
 use Rattle.loes.specs.Read.{read}
-use Rattle.loes.specs.Model.{packTests, Answer, refused, wrote, wroteKey, indexIs, rankIs, isPresent, isAbsent, isNone, tells, Outcome, Step, refusal, refusedOr, tested, fronts, anyShort, writes, writesKey, answers, keyIn, batchKeys, batchEntry, joinTests, unionEntry, differenceEntry, pack, union, difference, contains, indexOf, keyAt, rankAt, lowerBound}
+use Rattle.loes.specs.Model.{packTests, Answer, refused, wrote, wroteKey, indexIs, rankIs, isPresent, isAbsent, isNone, isPosted, tells, OutcomeOf, Outcome, StepOf, Step, refusal, refusedOr, tested, fronts, anyShort, writes, writesKey, answers, keyIn, batchKeys, batchEntry, joinTests, unionEntry, differenceEntry, pack, union, difference, contains, indexOf, keyAt, rankAt, lowerBound}
 use Rattle.loes.specs.Calls.{afterReading, reading, packCall, unionCall, differenceCall, containsCall, indexOfCall, keyAtCall, rankCall, lowerBoundCall}
 use Rattle.loes.specs.History.{Call, doPack, doUnion, doDifference, askContains, askIndexOf, askLowerBound, askKeyAt, askRank, atPlace, modelCall, addedBy, outcomeOf, modelFrom, modelSays, storeCall, cut, writtenWith, writtenBy, storeFrom, storeSays, modelAfter, storeAfter}
 use Rattle.loes.specs.Demands.{Writes, noEntry, HistoriesAgree}
@@ -40,7 +40,7 @@ valid-at (e ∷ t) zero h l = h .0
 valid-at (e ∷ t) (suc i) h l = valid-at t i (h .1) (omega arith)
 
 -- ---- A call on the encodings of entries is the model's call on the entries
-pub reading-encode : (e : Entry) (bufs : List Bytes) (next : Entry → Outcome) → Valid e → reading (encode e) bufs next ≡ next e
+pub reading-encode : {L : Type 0} (e : Entry) (bufs : L) (next : Entry → OutcomeOf L) → Valid e → reading (encode e) bufs next ≡ next e
 unfolding reading afterReading
 reading-encode e bufs next f = rw (read-encode e f)
 
@@ -140,6 +140,7 @@ made-none (rankIs n) = refl
 made-none isPresent = refl
 made-none isAbsent = refl
 made-none isNone = refl
+made-none isPosted = refl
 made-none (tells m n b) = refl
 
 answers-kept : (ts : Tests) (a : Answer) → Kept (answers ts a)
@@ -148,7 +149,7 @@ answers-kept ts a = tested-kept ts [] _ (λ z. (tt, sym (made-none a)))
 
 key-kept : (ts : Tests) (t : ℕ) (k : Key) (out : Bytes) → Kept (writesKey ts t k out)
 unfolding writesKey
-key-kept ts t k out = tested-kept _ (out ∷ []) _ (λ z. unfold writtenWith in (tt, refl))
+key-kept ts t k out = tested-kept _ _ _ (λ z. unfold writtenWith in (tt, refl))
 
 -- ---- The sets that pack, union and difference name have keys of their width only
 same-length : (j k : Key) → sameKey j k ≡ true → length j ≡ length k
@@ -172,7 +173,7 @@ batch-sized m (x ∷ l) k h = go (batch-sized m l k) (sameKey k (keyIn m x)) ref
     go rest true z h = same-length k (keyIn m x) z ∙ length-key m x
     go rest false z h = rest h
 
-pack-valid : (m : ℕ) (batch : Bytes) → wrongWidth m ≡ false → edgeCount (batchEntry m batch) ≤ maxEdges → Valid (batchEntry m batch)
+pub pack-valid : (m : ℕ) (batch : Bytes) → wrongWidth m ≡ false → edgeCount (batchEntry m batch) ≤ maxEdges → Valid (batchEntry m batch)
 unfolding batchEntry setOf wrongWidth
 pack-valid m batch w q =
     let r = neither (ltb m 1) (ltb maxWidth m) w in
@@ -188,7 +189,7 @@ or-else : (a b : Bool) (P : Type 0) → (a ≡ true → P) → (b ≡ true → P
 or-else true b P f g h = f refl
 or-else false b P f g h = g h
 
-joined-same : (e f : Entry) → firstOf (joinTests e f) ≡ none → e .width ≡ f .width
+pub joined-same : (e f : Entry) → firstOf (joinTests e f) ≡ none → e .width ≡ f .width
 unfolding joinTests
 joined-same e f z = yes-eq (e .width) (f .width) (not-false (eqb (e .width) (f .width)) (none-test _ _ _ z .0))
 
@@ -196,13 +197,13 @@ valid-like : (e : Entry) (s : KeySet) → Valid e → ((k : Key) → s k ≡ tru
 unfolding withSet
 valid-like e s g h q = record { positive = g .positive; narrow = g .narrow; sized = h; few = q }
 
-union-valid : (e f : Entry) → Valid e → Valid f → firstOf (joinTests e f) ≡ none → edgeCount (unionEntry e f) ≤ maxEdges → Valid (unionEntry e f)
+pub union-valid : (e f : Entry) → Valid e → Valid f → firstOf (joinTests e f) ≡ none → edgeCount (unionEntry e f) ≤ maxEdges → Valid (unionEntry e f)
 unfolding either
 union-valid e f g h z =
     valid-like e (either (e .set) (f .set)) g
     (λ k i. or-else (e .set k) (f .set k) (length k ≡ e .width) (g .sized k) (λ j. h .sized k j ∙ sym (joined-same e f z)) i)
 
-difference-valid : (e f : Entry) → Valid e → edgeCount (differenceEntry e f) ≤ maxEdges → Valid (differenceEntry e f)
+pub difference-valid : (e f : Entry) → Valid e → edgeCount (differenceEntry e f) ≤ maxEdges → Valid (differenceEntry e f)
 unfolding without
 difference-valid e f g = valid-like e (without (e .set) (f .set)) g (λ k i. g .sized k (both (e .set k) (not (f .set k)) i .0))
 
@@ -234,7 +235,7 @@ call-kept t (askKeyAt i n out) h = atPlace-kept t i _ h (λ e g. unfold keyAt in
 call-kept t (askRank i o) h = atPlace-kept t i _ h (λ e g. unfold rankAt in answers-kept _ _)
 
 -- ---- What is accepted is written
-tested-only : (ts : Tests) (bufs : List Bytes) (done : Step) → ((k : ℕ) → tested ts bufs done .outcome .answer ≡ refused k → ⊥) → firstOf ts ≡ none
+pub tested-only : {L : Type 0} (ts : Tests) (bufs : L) (done : StepOf L) → ((k : ℕ) → tested ts bufs done .outcome .answer ≡ refused k → ⊥) → firstOf ts ≡ none
 unfolding tested
 tested-only ts bufs done h = go (firstOf ts) refl h
   where
@@ -285,13 +286,9 @@ unfolding addedBy
 kept-valid none h = tt
 kept-valid (some s) h = h .0
 
-map-append : (t u : List Entry) → map encode (t ++ u) ≡ map encode t ++ map encode u
-map-append [] u = refl
-map-append (e ∷ t) u = ap (λ x. encode e ∷ x) (map-append t u)
-
 -- one call: the same outcome, and the store is again the encodings of the model
 store-step : (t : List Entry) (c : Call) → AllValid t → map encode t ++ writtenBy (storeCall (map encode t) c) ≡ map encode (t ++ addedBy (modelCall t c))
-store-step t c h = rw (call-agree t c h, kept-encodes (modelCall t c) (call-kept t c h)) (sym (map-append t (addedBy (modelCall t c))))
+store-step t c h = rw (call-agree t c h, kept-encodes (modelCall t c) (call-kept t c h)) (sym (map-append encode t (addedBy (modelCall t c))))
 
 step-valid : (t : List Entry) (c : Call) → AllValid t → AllValid (t ++ addedBy (modelCall t c))
 step-valid t c h = valid-append t (addedBy (modelCall t c)) h (kept-valid (modelCall t c) (call-kept t c h))

@@ -8,12 +8,12 @@ use Rattle.loes.specs.Bytes.{Bytes}
 use Rattle.loes.specs.Entry.{Entry}
 use Rattle.loes.specs.Refusals.{Tests, firstOf}
 use Rattle.loes.specs.Read.{Reading, rejected, opened, read}
-use Rattle.loes.specs.Model.{Answer, refused, wrote, wroteKey, indexIs, rankIs, isPresent, isAbsent, isNone, tells, Outcome, Step, refusal, refusedOr, tested, writes, writesKey, pack, union, difference, keyAt}
+use Rattle.loes.specs.Model.{Answer, refused, wrote, wroteKey, indexIs, rankIs, isPresent, isAbsent, isNone, isPosted, tells, OutcomeOf, StepOf, refusal, refusedOr, tested, writes, writesKey, pack, union, difference, keyAt}
 use Rattle.loes.specs.Calls.{afterReading, reading, packCall, unionCall, differenceCall, keyAtCall}
 use Rattle.loes.specs.Demands.{Keeps, RefusalsKeep}
 use Rattle.loes.specs.Cursor.{Cursor, Advanced, staysOr, stays, hasNext, nextKey, goesTo, goesToAfter, advance, advanceReading, advanceCall}
 
-abbrev Accepts : Answer → Type 0
+abbrev pub Accepts : Answer → Type 0
 Accepts (refused k) = ⊥
 Accepts (wrote ns) = Unit {0}
 Accepts (wroteKey n) = Unit {0}
@@ -22,9 +22,10 @@ Accepts (rankIs n) = Unit {0}
 Accepts isPresent = Unit {0}
 Accepts isAbsent = Unit {0}
 Accepts isNone = Unit {0}
+Accepts isPosted = Unit {0}
 Accepts (tells m n b) = Unit {0}
 
-tested-keeps : (ts : Tests) (bufs : List Bytes) (done : Step) → Accepts (done .outcome .answer) → Keeps (tested ts bufs done .outcome) bufs
+pub tested-keeps : {L : Type 0} (ts : Tests) (bufs : L) (done : StepOf L) → Accepts (done .outcome .answer) → Keeps (tested ts bufs done .outcome) bufs
 unfolding tested refusedOr refusal
 tested-keeps ts bufs done h = go (firstOf ts)
   where
@@ -32,7 +33,7 @@ tested-keeps ts bufs done h = go (firstOf ts)
     go none k e = absurd (subst Accepts e h)
     go (some n) k e = refl
 
-reading-keeps : (l : Bytes) (bufs : List Bytes) (next : Entry → Outcome) → ((e : Entry) → Keeps (next e) bufs) → Keeps (reading l bufs next) bufs
+pub reading-keeps : {L : Type 0} (l : Bytes) (bufs : L) (next : Entry → OutcomeOf L) → ((e : Entry) → Keeps (next e) bufs) → Keeps (reading l bufs next) bufs
 unfolding reading afterReading refusal
 reading-keeps l bufs next h = go (read l)
   where

@@ -7,6 +7,7 @@ use mathlib.Core.Option.{Option, none, some}
 use native.Mathlib.Omega.{arith}
 use lib.Dec.{T, eqb, ltb, eqb→eq, eqb-refl, ltb→lt, lt→ltb, nltb→le}
 use Rattle.loes.specs.Bytes.{sameNumbers}
+use Rattle.loes.specs.Keys.{Key, sameKey}
 use Rattle.loes.specs.Refusals.{Tests, test, firstOf}
 
 is-true : (b : Bool) → T b → b ≡ true
@@ -75,6 +76,22 @@ same-is (x ∷ l) [] h = absurd (false≢true h)
 same-is (x ∷ l) (y ∷ m) h =
     let r : (eqb x y ≡ true) × (sameNumbers l m ≡ true) = both (eqb x y) (sameNumbers l m) h in
     ap₂ _∷_ (yes-eq x y (r .0)) (same-is l m (r .1))
+
+pub same-refl : (k : Key) → sameKey k k ≡ true
+unfolding sameKey
+same-refl [] = refl
+same-refl (false ∷ k) = same-refl k
+same-refl (true ∷ k) = same-refl k
+
+pub same-eq : (j k : Key) → sameKey j k ≡ true → j ≡ k
+unfolding sameKey
+same-eq [] [] h = refl
+same-eq [] (b ∷ k) h = absurd (false≢true h)
+same-eq (a ∷ j) [] h = absurd (false≢true h)
+same-eq (false ∷ j) (false ∷ k) h = rw (same-eq j k h)
+same-eq (false ∷ j) (true ∷ k) h = absurd (false≢true h)
+same-eq (true ∷ j) (false ∷ k) h = absurd (false≢true h)
+same-eq (true ∷ j) (true ∷ k) h = rw (same-eq j k h)
 
 -- ---- No test holds
 abbrev Some : Option ℕ → Type 0

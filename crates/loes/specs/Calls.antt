@@ -1,17 +1,17 @@
 -- The calls on bytes: the refusal of an encoding, or what the model answers for its entry. Public functions promise these.
 use Prim.Native.Nat.{ℕ}
-use mathlib.Core.List.{List, [], _∷_}
+use mathlib.Core.List.{[], _∷_}
 use Rattle.loes.specs.Bytes.{Bytes}
 use Rattle.loes.specs.Entry.{Entry}
 use Rattle.loes.specs.Read.{Reading, rejected, opened, read}
-use Rattle.loes.specs.Model.{Outcome, refusal, pack, union, difference, opens, contains, indexOf, keyAt, rankAt, lowerBound}
+use Rattle.loes.specs.Model.{OutcomeOf, Outcome, refusal, pack, union, difference, opens, contains, indexOf, keyAt, rankAt, lowerBound}
 
 -- refused with the reading's number, every buffer kept, or what follows for the entry
-unfoldable pub afterReading : Reading → List Bytes → (Entry → Outcome) → Outcome
+unfoldable pub afterReading : {L : Type 0} → Reading → L → (Entry → OutcomeOf L) → OutcomeOf L
 afterReading (rejected k) bufs next = refusal k bufs .outcome
 afterReading (opened e) bufs next = next e
 
-unfoldable pub reading : Bytes → List Bytes → (Entry → Outcome) → Outcome
+unfoldable pub reading : {L : Type 0} → Bytes → L → (Entry → OutcomeOf L) → OutcomeOf L
 reading l bufs next = afterReading (read l) bufs next
 
 unfoldable pub packCall : ℕ → Bytes → Bytes → Outcome

@@ -15,14 +15,14 @@ use Rattle.loes.specs.Encode.{encode}
 use Rattle.loes.specs.Refusals.{tooLarge, shortBuffer, Tests, test, firstOf}
 use Rattle.loes.specs.Read.{readTests, opened, read}
 use Rattle.loes.specs.Model as model
-use Rattle.loes.specs.Model.{refused, wrote, wroteKey, tells, isPresent, isAbsent, isNone, indexIs, rankIs, Outcome, saying, writing, keyIn, keyTest, packTests, batchEntry, joinTests, unionEntry, differenceEntry}
+use Rattle.loes.specs.Model.{refused, wrote, wroteKey, tells, isPresent, isAbsent, isNone, indexIs, rankIs, OutcomeOf, Outcome, saying, writing, keyIn, keyTest, packTests, batchEntry, joinTests, unionEntry, differenceEntry}
 use Rattle.loes.specs.Calls.{packCall, unionCall, differenceCall, openCall, containsCall, indexOfCall, keyAtCall, rankCall, lowerBoundCall}
 use Rattle.loes.specs.Cursor.{before, after, Cursor, noOffsets, stays, goesToAfter, advance, advanceCall}
 use Rattle.loes.specs.Walk.{walk, visits, Roomy}
 use Rattle.loes.specs.History.{Call, modelSays, storeSays, modelAfter, storeAfter}
 
 -- ---- Demand 1: a refused call, of those that are lent something to write, changes no byte, and its cursor stays
-abbrev pub Keeps : Outcome → List Bytes → Type 0
+abbrev pub Keeps : {L : Type 0} → OutcomeOf L → L → Type 0
 Keeps o bufs = (k : ℕ) → o .answer ≡ refused k → o .buffers ≡ bufs
 
 pub record RefusalsKeep : Type 0 where

@@ -5,7 +5,7 @@ use mathlib.Core.Option.{Option, none, some}
 use lib.ListN.{take}
 use Rattle.loes.specs.Bytes.{Bytes}
 use Rattle.loes.specs.Entry.{Entry}
-use Rattle.loes.specs.Model.{Answer, refused, wrote, wroteKey, tells, isPresent, isAbsent, isNone, indexIs, rankIs, Outcome, Step, pack, union, difference, contains, indexOf, keyAt, rankAt, lowerBound}
+use Rattle.loes.specs.Model.{Answer, refused, wrote, wroteKey, tells, isPresent, isAbsent, isNone, isPosted, indexIs, rankIs, Outcome, Step, pack, union, difference, contains, indexOf, keyAt, rankAt, lowerBound}
 use Rattle.loes.specs.Calls.{packCall, unionCall, differenceCall, containsCall, indexOfCall, keyAtCall, rankCall, lowerBoundCall}
 
 -- A call as a history has it: encodings by their places in the store, counted from 0, and whatever else it is given; its output buffer comes last.
@@ -84,6 +84,7 @@ writtenWith (tells m n b) bufs = []
 writtenWith isPresent bufs = []
 writtenWith isAbsent bufs = []
 writtenWith isNone bufs = []
+writtenWith isPosted bufs = []
 writtenWith (indexIs n) bufs = []
 writtenWith (rankIs n) bufs = []
 

@@ -23,13 +23,19 @@ pub data Answer : Type 0 where
   -- m, n and b
   tells : ℕ → ℕ → ℕ → Answer
   isPresent isAbsent isNone : Answer
+  -- an amount was added to a member's weight
+  isPosted : Answer
   indexIs : ℕ → Answer
   rankIs : ℕ → Answer
 
--- what is returned, and the lent output buffers after the call
-pub record Outcome : Type 0 where
+-- what is returned, and what was lent for output, after the call
+pub record OutcomeOf (L : Type 0) : Type 0 where
   pub answer : Answer
-  pub buffers : List Bytes
+  pub buffers : L
+
+-- of the calls that are lent output buffers only
+abbrev pub Outcome : Type 0
+Outcome = OutcomeOf (List Bytes)
 
 -- an answer, with no buffer lent, and with one
 abbrev pub saying : Answer → Outcome
@@ -39,21 +45,24 @@ abbrev pub writing : Answer → Bytes → Outcome
 writing a out = record { answer = a; buffers = out ∷ [] }
 
 -- a step of the model: its outcome, and the entries it adds
-pub record Step : Type 0 where
-  pub outcome : Outcome
+pub record StepOf (L : Type 0) : Type 0 where
+  pub outcome : OutcomeOf L
   pub added : List Entry
 
+abbrev pub Step : Type 0
+Step = StepOf (List Bytes)
+
 -- ---- Refused or done
--- refused: nothing is added, every byte stays
-unfoldable pub refusal : ℕ → List Bytes → Step
+-- refused: nothing is added, everything lent stays
+unfoldable pub refusal : {L : Type 0} → ℕ → L → StepOf L
 refusal k bufs = record { outcome = record { answer = refused k; buffers = bufs }; added = [] }
 
-unfoldable pub refusedOr : Option ℕ → List Bytes → Step → Step
+unfoldable pub refusedOr : {L : Type 0} → Option ℕ → L → StepOf L → StepOf L
 refusedOr none bufs done = done
 refusedOr (some k) bufs done = refusal k bufs
 
 -- a call with these tests and these buffers, and what it does if no test holds
-unfoldable pub tested : Tests → List Bytes → Step → Step
+unfoldable pub tested : {L : Type 0} → Tests → L → StepOf L → StepOf L
 tested ts bufs done = refusedOr (firstOf ts) bufs done
 
 -- nothing is written

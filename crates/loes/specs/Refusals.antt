@@ -69,6 +69,15 @@ shortBuffer = 14
 abbrev pub badCursor : ℕ
 badCursor = 15
 
+-- ---- Whoever keeps weights
+-- a list that is not as long as its encoding has members
+abbrev pub wrongList : ℕ
+wrongList = 16
+
+-- a sum that leaves 32 signed bits
+abbrev pub overflow : ℕ
+overflow = 17
+
 -- ---- Tests in order
 abbrev pub Tests : Type 0
 Tests = List (Option ℕ)

@@ -28,3 +28,7 @@ pub const TWO_WIDTHS: u8 = 13;
 pub const SHORT_BUFFER: u8 = 14;
 
 pub const BAD_CURSOR: u8 = 15;
+
+pub const WRONG_LIST: u8 = 16;
+
+pub const OVERFLOW: u8 = 17;

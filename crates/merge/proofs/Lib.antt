@@ -4,3 +4,4 @@ pub mod Levels
 pub mod Merging
 pub mod Held
 pub mod Queue
+pub mod Flags

@@ -154,14 +154,16 @@ merged-done {m} {x} {y} {a} {b} {p} {from} ha hb w v e =
     let z : 2 * from / 2 ≡ from = omega arith in
     record {
       edges = bits-recordsTo p from ∙ ap recordBits (v .out) ∙ sym (edges-levels m (either s t));
-      flags = rw z (v .queue ∙ flags-members m s t);
-      fits =
-          omega (arith, v .last, end-most (held-of ha) (held-of hb) v (omega arith), v .la, v .lb, held-length (held-of ha), held-length (held-of hb), w .queue, v .size, e);
+      flags = record {
+        each = rw z (v .queue ∙ flags-members m s t);
+        fits =
+            omega (arith, v .last, end-most (held-of ha) (held-of hb) v (omega arith), v .la, v .lb, held-length (held-of ha), held-length (held-of hb), w .queue, v .size, e);
+      };
       size = v .size ∙ e;
     }
 
 -- an edge sequence has an even number of bits
-even-edges : (e : Entry) → 2 * (length (edgesOf e) / 2) ≡ length (edgesOf e)
+pub even-edges : (e : Entry) → 2 * (length (edgesOf e) / 2) ≡ length (edgesOf e)
 unfolding edgesOf
 even-edges e =
     let l : length (edges (e .width) (e .set)) ≡ 2 * length (treeLevels (e .width) 0 (e .width) (e .set)) = ap length (edges-levels (e .width) (e .set)) ∙ length-bits (treeLevels (e .width) 0 (e .width) (e .set)) in

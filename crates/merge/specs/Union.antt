@@ -18,11 +18,15 @@ use Rattle.records.specs.Numbers.{recordsOf, Short, overread, overwrite}
 unfoldable pub flagOf : KeySet → KeySet → Key → Flag
 flagOf s t k = record { inFirst = s k; inSecond = t k }
 
--- what merging two entries leaves: the union's edges in the first b bits, and behind them the flags of its n members in order
+-- n flags from place r on: those of the union's members, in order
+pub record MemberFlags (e f : Entry) (p : Bytes) (r n : ℕ) : Type 0 where
+  pub each : flagsFrom p r n ≡ map (flagOf (e .set) (f .set)) (keysOf (unionEntry e f))
+  pub fits : r + n ≤ 4 * length p
+
+-- what merging two entries leaves: the union's edges in the first b bits, and behind them the flags of its n members
 pub record Merged (e f : Entry) (q p : Bytes) (b n : ℕ) : Type 0 where
   pub edges : bitsIn p b ≡ edgesOf (unionEntry e f)
-  pub flags : flagsFrom p (b / 2) n ≡ map (flagOf (e .set) (f .set)) (keysOf (unionEntry e f))
-  pub fits : b / 2 + n ≤ 4 * length p
+  pub flags : MemberFlags e f p (b / 2) n
   pub size : length p ≡ length q
 
 -- room for the flags that merging a and b edges pushes

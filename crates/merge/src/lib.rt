@@ -7,10 +7,8 @@ ghost use lib.ListN.{length};
 ghost use lib.Dec.{ltb};
 ghost use Rattle.loes.specs.Limits.{maxEdges};
 ghost use Rattle.loes.specs.Bytes.{odd, bit};
-ghost use Rattle.loes.specs.Entry.{edgesOf};
 ghost use Rattle.loes.specs.Held.{entryHeld, Holds};
-ghost use Rattle.loes.specs.Model.{unionEntry};
-ghost use Rattle.records.specs.Records.{recordOfCode, flagAt, flagsFrom, recordOfFlag, Packed};
+ghost use Rattle.records.specs.Records.{recordOfCode, flagAt, flagsFrom, recordOfFlag};
 ghost use Rattle.records.specs.Numbers.{recordsOf, eightOf, Short, overread, overwrite};
 ghost use Rattle.records.specs.Tables.{Spreads, Parted, Runs, TablesLent};
 ghost use Rattle.merge.specs.Union.{Merged, QueueRoom, eitherRecord, childFlags, childrenOf, flagsIn, EightMerged, takenRecord, Queued, RecordMerged, BlockMerged, LevelMerged, LevelRoom};
@@ -263,28 +261,4 @@ pub fn merge(
     let n = at.tail.0 - from.0;
     let edges = 2 * from.0;
     Sizes { edges, members: n }
-}
-
-// The edges of the union alone, and what is left of their last byte cleared: how many bits they are.
-pub fn unite(
-    m: usize,
-    a: &[u8],
-    ba: usize,
-    b: &[u8],
-    bb: usize,
-    spreads: &[u8],
-    parts: &[u32],
-    runs: &[u16],
-    q: &mut [u8],
-) -> usize
-    requires { ⌜ Holds m ba (now a) × (ba / 2 + overread ≤ 4 * length (now a)) ⌝ }
-    requires { ⌜ Holds m bb (now b) × (bb / 2 + overread ≤ 4 * length (now b)) ⌝ }
-    requires { ⌜ TablesLent (now spreads) (now parts) (now runs) ⌝ }
-    requires { ⌜ QueueRoom ba bb (now q) ⌝ }
-    ensures { λ k. ⌜ Packed (edgesOf (unionEntry (entryHeld m ba (now (a .entry))) (entryHeld m bb (now (b .entry))))) (now (q .entry)) (now (q .exit)) k ⌝ }
-{
-    let u = merge(m, a, ba, b, bb, spreads, parts, runs, q);
-    let k = u.edges;
-    records::seal(q, RecordIndex(k / 2));
-    k
 }

@@ -14,12 +14,13 @@ use Rattle.loes.specs.Limits.{maxWidth, maxEdges}
 use Rattle.loes.specs.Bytes.{Bytes, tabulate, started}
 use Rattle.loes.specs.Keys.{Key, less, setOf}
 use Rattle.loes.specs.Edges.{edges}
-use Rattle.loes.specs.Prefixes.{recordsBefore}
-use Rattle.loes.specs.Entry.{keyBytes, edgesOf, edgeCount, wrongWidth, tooManyEdges}
+use Rattle.loes.specs.Prefixes.{prefixCount, recordsBefore}
+use Rattle.loes.specs.Entry.{keyBytes, keysOf, count, edgesOf, edgeCount, wrongWidth, tooManyEdges}
 use Rattle.loes.specs.Refusals.{badWidth, tooLarge, raggedBatch, unusedBitSet, descending, test, firstOf}
 use Rattle.loes.specs.Model.{keyIn, unusedSet, batchKeys, risingTests, packTests, batchEntry}
 use Rattle.loes.proofs.Tests.{lt-yes, lt-no, no-lt, yes-eq, not-false, neither, none-append, none-test, none-first, some-first}
 use Rattle.loes.proofs.Bits.{tabulate-ext, map-tabulate, bits-taken}
+use Rattle.loes.proofs.Tree.{length-members}
 use Rattle.loes.proofs.Navigation.{length-edgesBefore}
 use Rattle.pack.specs.Rising.{setBelow, Rising}
 use Rattle.pack.specs.Batch.{key, previous, keyTests, testsBelow, Batch}
@@ -77,6 +78,10 @@ module _ (m : ℕ) (l : Bytes) where
   pub edge-count : edgeCount (batchEntry m l) ≡ 2 * recordsBefore m m (batchEntry m l .set)
   unfolding edgeCount edgesOf edges batchEntry
   edge-count = length-edgesBefore m m _ (omega arith)
+
+  pub batch-members : count (batchEntry m l) ≡ prefixCount m m (setBelow (key m l) keys)
+  unfolding count keysOf batchEntry
+  batch-members = length-members m (batchEntry m l .set) ∙ ap (prefixCount m m) set-is
 
   pub bad-width : (m ≡ 0) ⊎ (maxWidth < m) → firstOf (edgeTests m l) ≡ some badWidth
   unfolding edgeTests packTests wrongWidth test firstOf

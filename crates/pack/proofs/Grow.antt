@@ -12,6 +12,7 @@ use lib.Dec.{leb, leb·zero, leb·suc-zero, leb·suc-suc}
 use Rattle.loes.specs.Bytes.{tabulate, bit}
 use Rattle.loes.specs.Keys.{Key, KeySet, anyOf, sameKey, setOf, less}
 use Rattle.loes.specs.Prefixes.{half, inhabited, prefixCount, prefixesBefore}
+use Rattle.loes.proofs.Tests.{same-refl, same-eq}
 use Rattle.loes.proofs.Lists.{anyOf-append}
 use Rattle.loes.proofs.Tree.{hasPrefix, prefix-of, prefix-inhabited, count-one, false-if, count-none}
 use Rattle.pack.specs.Rising.{commonPrefix, firstNew, setBelow, Rising}
@@ -143,22 +144,6 @@ less-trans (false ∷ a) (true ∷ b) (false ∷ c) h l p q = absurd (true≢fal
 less-trans (true ∷ a) (false ∷ b) (z ∷ c) h l p q = absurd (true≢false p)
 less-trans (true ∷ a) (true ∷ b) (false ∷ c) h l p q = absurd (true≢false q)
 less-trans (true ∷ a) (true ∷ b) (true ∷ c) h l p q = less-trans a b c (omega arith) (omega arith) p q
-
-pub same-refl : (k : Key) → sameKey k k ≡ true
-unfolding sameKey
-same-refl [] = refl
-same-refl (false ∷ k) = same-refl k
-same-refl (true ∷ k) = same-refl k
-
-pub same-eq : (j k : Key) → sameKey j k ≡ true → j ≡ k
-unfolding sameKey
-same-eq [] [] e = refl
-same-eq [] (b ∷ k) e = absurd (false≢true e)
-same-eq (a ∷ j) [] e = absurd (false≢true e)
-same-eq (false ∷ j) (false ∷ k) e = rw (same-eq j k e)
-same-eq (false ∷ j) (true ∷ k) e = absurd (false≢true e)
-same-eq (true ∷ j) (false ∷ k) e = absurd (false≢true e)
-same-eq (true ∷ j) (true ∷ k) e = rw (same-eq j k e)
 
 -- ---- the first keys of a rising list
 pub below-suc : (f : ℕ → Key) (i : ℕ) → setBelow f (suc i) ≡ insert (setBelow f i) (f i)

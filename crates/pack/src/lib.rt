@@ -1,16 +1,18 @@
 // The call pack: a sorted batch of keys, its edges marked where they stand in the encoding.
 ghost use mathlib.Core.Path.{_≡_};
+ghost use mathlib.Core.Option.{none};
 ghost use Prim.Native.Nat.{ℕ, _+_, _-_, _*_, _/_, _%_, _^_, _<_, _≤_};
 ghost use lib.ListN.{length, drop, getD, replicate};
 ghost use Rattle.loes.specs.Limits.{maxWidth, maxEdges};
 ghost use Rattle.loes.specs.Edges.{edges as edgeSequence};
 ghost use Rattle.loes.specs.Bytes.{packBits, bit, bitAt};
 ghost use Rattle.loes.specs.Keys.{less};
-ghost use Rattle.loes.specs.Entry.{keyBytes, edgesOf, edgeCount};
+ghost use Rattle.loes.specs.Entry.{keyBytes, count, edgesOf, edgeCount};
+ghost use Rattle.loes.specs.Refusals.{firstOf};
 ghost use Rattle.loes.specs.Model.{keyIn, batchEntry};
 ghost use Rattle.loes.specs.Calls.{packCall};
 ghost use Rattle.build.specs.Writing.{writtenOutcome};
-ghost use Rattle.pack.specs.Packing.{Blank, Ready, Planned, Unfilled};
+ghost use Rattle.pack.specs.Packing.{edgeTests, Blank, Ready, Planned, Unfilled};
 ghost use Rattle.pack.specs.Rising.{commonPrefix, firstNew, setBelow};
 ghost use Rattle.pack.specs.Marking.{Bumped, running, Starts, maxRecords, Gap, Masks, setBit, setBits, secondEdges, offsetOf, AboveFits, KeyFits, Row, rowOffset};
 ghost use Rattle.pack.specs.Batch.{SameBytes, FirstDifference, key, previous, KeyThere, KeyChecked, Uncounted, RecordsCounted, Markable, Unmarked, Apart, edgesFrom};
@@ -440,14 +442,14 @@ fn clear(b: &mut [u8])
 
 // ---- Both passes
 // No record yet on any level.
-fn no_records() -> [usize; Encoding::MAX_WIDTH]
+pub fn no_records() -> [usize; Encoding::MAX_WIDTH]
     ensures { λ r. ⌜ Blank r ⌝ }
 {
     [0; Encoding::MAX_WIDTH]
 }
 
 // Refuses a batch, or tells how many edge bits its entry has, and the records before each level.
-fn plan(m: usize, batch: &[u8], levels: &mut [usize]) -> Verdict
+pub fn plan(m: usize, batch: &[u8], levels: &mut [usize]) -> Verdict
     requires { ⌜ Blank (now levels) ⌝ }
     ensures { λ r. ⌜ Planned m (now (batch .entry)) (now (levels .exit)) r ⌝ }
 {
@@ -472,6 +474,22 @@ fn plan(m: usize, batch: &[u8], levels: &mut [usize]) -> Verdict
     Verdict::Accepted(2 * records)
 }
 
+// How many members the entry of a planned batch has: its keys, equal neighbours counting once.
+pub fn count_members(m: usize, batch: &[u8]) -> usize
+    requires { ⌜ firstOf (edgeTests m (now batch)) ≡ none ⌝ }
+    ensures { λ r. ⌜ r ≡ count (batchEntry m (now (batch .entry))) ⌝ }
+{
+    let t = bits::bytes_for(m);
+    let n = batch.len() / t;
+    let mut members = 0;
+    let mut i = 0;
+    while i < n {
+        members += (first_new(batch, i, t, m) <= m) as usize;
+        i += 1;
+    }
+    members
+}
+
 // The edge bytes of a planned batch, whatever was in the buffer.
 fn fill(batch: &[u8], m: usize, levels: &mut [usize], edges: &mut [u8])
     requires { ⌜ Unfilled m (now batch) (now levels) (now edges) ⌝ }
@@ -484,7 +502,13 @@ fn fill(batch: &[u8], m: usize, levels: &mut [usize], edges: &mut [u8])
 
 // ---- The call
 // The encoding of a planned batch, if it fits: its edges in their place, then the fields around them.
-fn write_planned(m: usize, b: usize, batch: &[u8], levels: &mut [usize], out: &mut [u8]) -> Written
+pub fn write_planned(
+    m: usize,
+    b: usize,
+    batch: &[u8],
+    levels: &mut [usize],
+    out: &mut [u8],
+) -> Written
     requires { ⌜ Ready m (now batch) (now levels) × (b ≡ edgeCount (batchEntry m (now batch))) × (length (now levels) ≡ maxWidth) ⌝ }
     ensures { λ r. ⌜ writtenOutcome r (now (out .exit)) ≡ packCall m (now (batch .entry)) (now (out .entry)) ⌝ }
 {

@@ -24,12 +24,12 @@ spread-facts {t} p f x hf hx =
     rw (q, r) at (p .rule (256 * f + x) (omega arith))
 
 -- ---- Parts
-first-le : (l : List Flag) → firstCount l ≤ length l
+pub first-le : (l : List Flag) → firstCount l ≤ length l
 unfolding firstCount
 first-le [] = omega arith
 first-le (f ∷ l) = omega (arith, first-le l, bit-le (f .inFirst))
 
-second-le : (l : List Flag) → secondCount l ≤ length l
+pub second-le : (l : List Flag) → secondCount l ≤ length l
 unfolding secondCount
 second-le [] = omega arith
 second-le (f ∷ l) = omega (arith, second-le l, bit-le (f .inSecond))

@@ -4,9 +4,9 @@ use Prim.Native.Nat.{ℕ, zero, suc, _+_, _-_, _*_, _/_, _≤_, _<_}
 use mathlib.Core.Bool.{Bool, true, false, _&&_, _||_, not}
 use mathlib.Core.List.{List, [], _∷_, map}
 use native.Mathlib.Omega.{arith}
-use lib.ListN.{length, getD, length-map}
+use lib.ListN.{length, getD}
 use lib.Dec.{ltb, eqb}
-use Rattle.loes.specs.Bytes.{Bytes, bit, bitAt, bitsIn, tabulate, packBits}
+use Rattle.loes.specs.Bytes.{Bytes, bit, bitAt, bitsIn, tabulate}
 use Rattle.loes.specs.Keys.{Key, KeySet, members, those, smaller, either, without}
 use Rattle.loes.specs.Edges.{Record, recordBits, ones, edges}
 use Rattle.loes.specs.Limits.{maxEdges}
@@ -16,17 +16,18 @@ use Rattle.loes.proofs.Tests.{eq-yes}
 use Rattle.loes.specs.Read.{entryAlong}
 use Rattle.loes.specs.Held.{entryHeld, Holds}
 use Rattle.loes.specs.Model.{unionEntry, differenceEntry}
-use Rattle.loes.proofs.Lists.{bits-append, length-bits, ones-append, getD-map-in, length-those}
+use Rattle.loes.proofs.Lists.{bits-append, length-bits, ones-append, length-those}
 use Rattle.loes.proofs.Tree.{length-members, before-smaller, members-at, index-lt}
 use Rattle.loes.proofs.Navigation.{length-edgesBefore, ones-edgesBefore, present-is}
 use Rattle.loes.proofs.Bytes.{getD-tabulate, length-tabulate}
-use Rattle.loes.proofs.Bits.{length-bitsIn}
+use Rattle.loes.proofs.Bits.{length-bitsIn, tabulate-ext}
 use Rattle.loes.proofs.Extensional.{Agree, edges-ext, members-ext}
 use Rattle.loes.proofs.Forest.{NoEmpty}
-use Rattle.records.specs.Records.{emptyRecord, hasEdge, children, childrenBefore, recordAt, recordsTo, Flag, flagAt, flagsFrom, isFlag, Packed}
+use Rattle.records.specs.Records.{emptyRecord, hasEdge, children, childrenBefore, recordAt, recordsTo, flagOfRecord, flagAt, flagsFrom, isFlag, Packed}
 use Rattle.merge.specs.Union.{flagOf, Merged}
-use Rattle.restrict.specs.Restriction.{restricted, flagMask, maskedFrom, Flagged, Entries, Marked, Restricted}
+use Rattle.restrict.specs.Restriction.{restricted, flagMask, maskedFrom, Flagged, Entries, Marked, Restricted, Subtracts}
 use Rattle.records.proofs.Codes.{records-more, length-records}
+use Rattle.merge.proofs.Flags.{flags-count, flag-of}
 use Rattle.merge.proofs.Merging.{treeLevels, edges-levels}
 use Rattle.merge.proofs.Held.{RecordsHeld, held-records, held-length, some-records, edges-records}
 use Rattle.restrict.proofs.Restricting.{within, edge-children, no-empty-levels, restrict-edges, mask-members}
@@ -113,10 +114,6 @@ fewer-edges m s p =
 
 -- ---- A merge's flags and edges
 module _ {e f : Entry} {q p : Bytes} {b n : ℕ} (v : Merged e f q p b n) where
-  pub merged-count : n ≡ count (unionEntry e f)
-  unfolding count flagsFrom
-  merged-count = sym (length-tabulate (λ k. flagAt p (b / 2 + k)) n) ∙ ap length (v .flags) ∙ rw length-map
-
   merged-even : 2 * (b / 2) ≡ b
   unfolding edgesOf withSet
   merged-even =
@@ -126,27 +123,22 @@ module _ {e f : Entry} {q p : Bytes} {b n : ℕ} (v : Merged e f q p b n) where
 
   pub merged-held : RecordsHeld (e .width) (either (e .set) (f .set)) p (b / 2)
   unfolding edgesOf withSet
-  merged-held = record { records = edges-records (e .width) (either (e .set) (f .set)) p (b / 2) (rw merged-even (v .edges)); fits = omega (arith, v .fits) }
+  merged-held = record { records = edges-records (e .width) (either (e .set) (f .set)) p (b / 2) (rw merged-even (v .edges)); fits = omega (arith, v .flags .fits) }
 
   pub merged-entries : 0 < e .width → Entries p (b / 2) n
   unfolding count keysOf withSet
-  merged-entries h = held-entries h merged-held n merged-count
+  merged-entries h = held-entries h merged-held n (flags-count (v .flags))
 
   -- a member's flag is the one at its index
   flag-at : (k : Key) → length k ≡ e .width → either (e .set) (f .set) k ≡ true → flagAt p (b / 2 + smaller k (keysOf (unionEntry e f))) ≡ flagOf (e .set) (f .set) k
-  unfolding count keysOf withSet flagsFrom
+  unfolding count keysOf withSet
   flag-at k l h =
       let m : ℕ = e .width in
       let s : KeySet = either (e .set) (f .set) in
       let i : ℕ = smaller k (members m s) in
-      let d : Flag = record { inFirst = false; inSecond = false } in
       let a : i ≡ prefixesBefore k m s = before-smaller k m s l in
-      let g : i < length (members m s) = rw a (index-lt k m s l h) in
-      let c : i < n = rw merged-count g in
-      sym (getD-tabulate (λ j. flagAt p (b / 2 + j)) n i d c)
-      ∙ ap (λ x. getD x i d) (v .flags)
-      ∙ getD-map-in (flagOf (e .set) (f .set)) (members m s) i [] d g
-      ∙ ap (flagOf (e .set) (f .set)) (ap (λ j. getD (members m s) j []) a ∙ members-at k m s l h)
+      let c : i < n = omega (arith, flags-count (v .flags), a, index-lt k m s l h) in
+      flag-of (v .flags) i c ∙ ap (flagOf (e .set) (f .set)) (ap (λ j. getD (members m s) j []) a ∙ members-at k m s l h)
 
   -- the members whose flag is w
   pub flagged-set : (w : ℕ) (k : Key) → length k ≡ e .width
@@ -177,7 +169,7 @@ difference-edges {e} {f} {p} {b} v =
 
 pub subtracted : {e f : Entry} {q p x : Bytes} {b n : ℕ} → Merged e f q p b n → Marked 1 p (b / 2) n x → recordBits (those hasEdge (recordsTo x (b / 2))) ≡ edgesOf (differenceEntry e f)
 unfolding withSet
-subtracted {e} {f} v w = marked-edges (unionEntry e f) (merged-held v) (merged-count v) w ∙ difference-edges v
+subtracted {e} {f} v w = marked-edges (unionEntry e f) (merged-held v) (flags-count (v .flags)) w ∙ difference-edges v
 
 pub difference-fewer : (e f : Entry) → edgeCount (differenceEntry e f) ≤ edgeCount e
 unfolding edgeCount edgesOf withSet
@@ -201,12 +193,18 @@ module _ {m x : ℕ} {a : Bytes} {f : Entry} {q p z : Bytes} {b n : ℕ} (h : Ho
       let l : List Record = those hasEdge (recordsTo z (b / 2)) in
       omega (arith, length-bits l, ap length (subtracted v w), difference-fewer (entryHeld m x a) f, first-count)
 
-  pub subtract-done : {o y : Bytes} {k : ℕ} → Packed (recordBits (those hasEdge (recordsTo z (b / 2)))) o y k → Packed (edgesOf (differenceEntry (entryHeld m x a) f)) o y k × (k ≤ x)
-  subtract-done c =
-      let g : recordBits (those hasEdge (recordsTo z (b / 2))) ≡ edgesOf (differenceEntry (entryHeld m x a) f) = subtracted v w in (
-        record { count = c .count ∙ ap length g; bytes = c .bytes ∙ ap packBits g; size = c .size },
-        omega (arith, c .count, length-bits (those hasEdge (recordsTo z (b / 2))), subtracted-count),
-      )
+  pub subtract-done : {o y : Bytes} {k : ℕ} → Packed (recordBits (those hasEdge (recordsTo z (b / 2)))) o y k → Subtracts (entryHeld m x a) f q o z y k (b / 2) n
+  unfolding flagsFrom flagAt
+  subtract-done {k} c =
+      record {
+        edges = rw (subtracted v w) at c;
+        flags =
+            record {
+              each = tabulate-ext (λ j. flagAt z (b / 2 + j)) (λ j. flagAt p (b / 2 + j)) n (λ j h. ap flagOfRecord (w .other (b / 2 + j) (omega arith))) ∙ v .flags .each;
+              fits = omega (arith, w .size, v .flags .fits);
+            };
+        queue = w .size ∙ v .size;
+      }
 
 -- ---- A merge can be restricted
 same-set : (e : Entry) (p : Bytes) (b : ℕ) → bitsIn p b ≡ edgesOf e → 0 < e .width → Agree (e .width) (entryHeld (e .width) b p .set) (e .set)
@@ -223,8 +221,8 @@ merged-flagged {e} {f} {p} {b} v h l =
     record {
       positive = h;
       same = same-edges (unionEntry e f) p b (v .edges) h;
-      room = omega (arith, v .fits, merged-even v);
-      members = merged-count v ∙ ap length (sym (members-ext (e .width) (entryHeld (e .width) b p .set) (either (e .set) (f .set)) (same-set (unionEntry e f) p b (v .edges) h)));
-      flags = v .fits;
+      room = omega (arith, v .flags .fits, merged-even v);
+      members = flags-count (v .flags) ∙ ap length (sym (members-ext (e .width) (entryHeld (e .width) b p .set) (either (e .set) (f .set)) (same-set (unionEntry e f) p b (v .edges) h)));
+      flags = v .flags .fits;
       small = rw (v .size) l;
     }

@@ -11,6 +11,8 @@ use Rattle.loes.specs.Keys.{Key, smaller, those}
 use Rattle.loes.specs.Edges.{Record}
 use Rattle.loes.specs.Entry.{Entry, keysOf, count, edgesOf, withSet}
 use Rattle.loes.specs.Held.{entryHeld}
+use Rattle.loes.specs.Model.{differenceEntry}
+use Rattle.merge.specs.Union.{MemberFlags}
 use Rattle.records.specs.Records.{hasEdge, children, childrenBefore, recordOfCode, recordAt, recordsTo, recordsAt, flagAt, isFlag, Packed}
 
 -- ---- On entries
@@ -36,6 +38,12 @@ pub record Restricted (f : ℕ → Bool) (e : Entry) (r : ℕ) (q o p u : Bytes)
   pub edges : Packed (edgesOf (restricted f e)) o u b
   pub less : b ≤ 2 * r
   pub flags : (j : ℕ) → r ≤ j → flagAt p j ≡ flagAt q j
+  pub queue : length p ≡ length q
+
+-- what subtracting leaves: the difference's edges in b bits, and the flags of the union's n members from place r on
+pub record Subtracts (e f : Entry) (q o p u : Bytes) (b r n : ℕ) : Type 0 where
+  pub edges : Packed (edgesOf (differenceEntry e f)) o u b
+  pub flags : MemberFlags e f p r n
   pub queue : length p ≡ length q
 
 -- ---- On lists of records

@@ -9,14 +9,13 @@ ghost use Rattle.loes.specs.Limits.{maxEdges};
 ghost use Rattle.loes.specs.Bytes.{odd, bit};
 ghost use Rattle.loes.specs.Keys.{those};
 ghost use Rattle.loes.specs.Edges.{recordBits};
-ghost use Rattle.loes.specs.Entry.{edgesOf, edgeCount};
+ghost use Rattle.loes.specs.Entry.{edgeCount};
 ghost use Rattle.loes.specs.Held.{entryHeld, Holds};
-ghost use Rattle.loes.specs.Model.{differenceEntry};
 ghost use Rattle.records.specs.Records.{recordOfCode, recordAt, recordsTo, hasEdge, Packed};
 ghost use Rattle.records.specs.Numbers.{recordsOf, bitsOf, Short, overread};
 ghost use Rattle.records.specs.Tables.{spread, byEdge, keptBy, Spreads, Parted, Runs, TablesLent};
 ghost use Rattle.merge.specs.Union.{QueueRoom};
-ghost use Rattle.restrict.specs.Restriction.{restricted, flagMask, Flagged, Restricted, keptAt, maskedAt, childCount, Entries, RecordMarked, MarkRoom, Marked, BlockCompacted, Compacted};
+ghost use Rattle.restrict.specs.Restriction.{restricted, flagMask, Flagged, Restricted, Subtracts, keptAt, maskedAt, childCount, Entries, RecordMarked, MarkRoom, Marked, BlockCompacted, Compacted};
 use bits::RecordIndex;
 use records::Run;
 
@@ -351,9 +350,16 @@ pub fn restrict(
 // ---- Difference
 
 // The flag of the members that only the first set has.
-const FIRST_ONLY: u8 = 1;
+pub const FIRST_ONLY: u8 = 1;
 
-// The edges of the difference of two sets of m bits: the merge, restricted.
+// The edge bits of a difference; where in the queue the members of the union are flagged, and how many.
+pub struct Remainder {
+    pub edges: usize,
+    pub flags: RecordIndex,
+    pub flagged: usize,
+}
+
+// The edges of the difference of two sets of m bits: the merge, restricted. The members' flags stay in the queue.
 pub fn subtract(
     m: usize,
     a: &[u8],
@@ -365,16 +371,21 @@ pub fn subtract(
     runs: &[u16],
     q: &mut [u8],
     out: &mut [u8],
-) -> usize
+) -> Remainder
     requires { ⌜ Holds m ba (now a) × (ba / 2 + overread ≤ 4 * length (now a)) ⌝ }
     requires { ⌜ Holds m bb (now b) × (bb / 2 + overread ≤ 4 * length (now b)) ⌝ }
     requires { ⌜ TablesLent (now spreads) (now parts) (now runs) ⌝ }
     requires { ⌜ QueueRoom ba bb (now q) × (ba < 8 * length (now out)) ⌝ }
-    ensures { λ k. ⌜ Packed (edgesOf (differenceEntry (entryHeld m ba (now (a .entry))) (entryHeld m bb (now (b .entry))))) (now (out .entry)) (now (out .exit)) k × (k ≤ ba) ⌝ }
+    ensures { λ k. ⌜ Subtracts (entryHeld m ba (now (a .entry))) (entryHeld m bb (now (b .entry))) (now (q .entry)) (now (out .entry)) (now (q .exit)) (now (out .exit)) (k .edges) (k .flags .0) (k .flagged) ⌝ }
 {
     let u = merge::merge(m, a, ba, b, bb, spreads, parts, runs, q);
     let r = RecordIndex(u.edges / 2);
     let n = u.members;
     mark(spreads, parts, q, r, n, FIRST_ONLY);
-    collect(q, spreads, parts, runs, r, out)
+    let edges = collect(q, spreads, parts, runs, r, out);
+    Remainder {
+        edges,
+        flags: r,
+        flagged: n,
+    }
 }

@@ -1,4 +1,4 @@
-/* The C header used from C: every call, each kind of answer field by field, and a lent cursor. */
+/* The C header used from C: every call, each kind of answer field by field, a lent cursor and lent lists. */
 #include "loes.h"
 
 #include <stdio.h>
@@ -66,6 +66,23 @@ int main(void) {
     cursor.state = LOES_AT;
     REQUIRE(is(loes_advance(set, sizeof set, &cursor, key, 0), 0, 0, 0));
     REQUIRE(cursor.state == LOES_AFTER && cursor.offsets[0].offset == 0);
+
+    int32_t weights[] = {7, 7, 7, 7}, sums[] = {7, 7, 7, 7};
+    REQUIRE(is(loes_pack_weighted(3, batch, sizeof batch, out, 48, weights, 2), LOES_SHORT_BUFFER, 0, 0) && weights[0] == 7);
+    REQUIRE(is(loes_pack_weighted(3, batch, sizeof batch, out, 48, weights, 4), 0, 1, 48) && memcmp(out, set, 48) == 0);
+    REQUIRE(weights[0] == 0 && weights[1] == 0 && weights[2] == 0 && weights[3] == 7);
+    REQUIRE(is(loes_post(set, sizeof set, weights, 3, batch + 1, 1, -5), 0, 1, 1) && weights[1] == -5);
+    REQUIRE(is(loes_post(set, sizeof set, weights, 3, batch + 1, 1, INT32_MIN), LOES_OVERFLOW, 0, 0) && weights[1] == -5);
+    REQUIRE(is(loes_post(set, sizeof set, weights, 4, batch + 1, 1, 1), LOES_WRONG_LIST, 0, 0) && weights[1] == -5);
+    key[0] = 0xE0;
+    REQUIRE(is(loes_post(set, sizeof set, weights, 3, key, 1, INT32_MIN), 0, 0, 0) && weights[2] == 0);
+    REQUIRE(is(loes_union_weighted(set, sizeof set, weights, 3, set, sizeof set, weights, 3, out, sizeof out, sums, 4), 0, 1, 48));
+    REQUIRE(memcmp(out, set, 48) == 0 && sums[0] == 0 && sums[1] == -10 && sums[2] == 0 && sums[3] == 7);
+    uint8_t second[47];
+    REQUIRE(is(loes_pack(3, batch, 1, second, sizeof second), 0, 1, 47));
+    REQUIRE(is(loes_difference_weighted(set, sizeof set, weights, 3, second, sizeof second, out, sizeof out, sums, 4), 0, 1, 48));
+    REQUIRE(sums[0] == -5 && sums[1] == 0 && sums[2] == 0 && sums[3] == 7);
+
     printf("%u %u %u %u %u %u %u\n", LOES_MAX_WIDTH, LOES_MAX_EDGES, LOES_BLOCK_BITS, LOES_SUB_BLOCK_BITS, LOES_MAX_BYTES,
            LOES_MAX_KEY_BYTES, LOES_CURSOR_OFFSETS);
     puts("right");

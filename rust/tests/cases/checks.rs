@@ -23,8 +23,8 @@ pub fn within_limits(set: Set) -> Result<Vec<u8>, u64> {
 
 // ---- Opening and the questions
 
-/// Questions at, near and beyond everything that the encoding has.
-pub fn questions(rng: &mut Rng, laid: &Laid, times: usize) -> Vec<Question> {
+/// Members, keys near them, keys at the ends, and keys that do not fit.
+pub fn keys_near(rng: &mut Rng, laid: &Laid, times: usize) -> Vec<Key> {
     let (width, t) = (laid.width(), key_len(laid.width()));
     let members: Vec<&Key> = laid.set.keys.iter().collect();
     let mut keys = vec![vec![0; t], trimmed(vec![0xFF; t], width), Vec::new(), rng.bytes(t + 1), rng.bytes(t - 1), vec![0; 33]];
@@ -48,8 +48,13 @@ pub fn questions(rng: &mut Rng, laid: &Laid, times: usize) -> Vec<Question> {
     keys.extend(members.first().map(|key| key.to_vec()));
     keys.extend(members.last().map(|key| key.to_vec()));
     keys.extend(members.last().map(|key| after(key, width)));
+    keys
+}
+
+/// Questions at, near and beyond everything that the encoding has.
+pub fn questions(rng: &mut Rng, laid: &Laid, times: usize) -> Vec<Question> {
     let mut questions = Vec::new();
-    for key in keys {
+    for key in keys_near(rng, laid, times) {
         questions.extend([Question::Contains(key.clone()), Question::IndexOf(key.clone()), Question::LowerBound(key)]);
     }
     let around = |n: usize, rng: &mut Rng| {
@@ -139,6 +144,7 @@ pub fn check_refused<S: Subject>(rng: &mut Rng, bytes: &[u8], number: u64) {
     same(rng, room, &what, |_| Err(number), |out| S::union(&right, bytes, out));
     same(rng, room, &what, |_| Err(number), |out| S::difference(&right, bytes, out));
     same(rng, room, &what, |_| Err(2), |out| S::union(&[9, 9, 9], bytes, out));
+    check_refused_weighted::<S>(rng, bytes, number);
     let state = *rng.pick(&[0, 1, 2, 3]);
     let mut offsets: Vec<u64> = (0..256).map(|_| if state == 1 { rng.next() } else { 0 }).collect();
     let before = offsets.clone();

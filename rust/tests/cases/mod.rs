@@ -1,5 +1,5 @@
-//! The differential tests, for anything that has the calls: answers, refusal numbers, cursors and every byte of every lent buffer
-//! are compared with the reference.
+//! The differential tests, for anything that has the calls: answers, refusal numbers, cursors, every byte of every lent buffer and
+//! every entry of every lent list are compared with the reference.
 #![allow(dead_code, unused_imports)]
 
 mod chance;
@@ -9,6 +9,7 @@ mod examples;
 mod lent;
 mod runs;
 mod sets;
+mod weights;
 
 pub use chance::*;
 pub use checks::*;
@@ -17,6 +18,7 @@ pub use examples::*;
 pub use lent::*;
 pub use runs::*;
 pub use sets::*;
+pub use weights::*;
 
 use crate::plain::{Answer, Key, Laid};
 
@@ -54,6 +56,11 @@ pub trait Subject {
     fn fill(walk: &mut Self::Walk<'_>, out: &mut [u8]) -> Answer;
     /// The walk's cursor: its state and its offsets.
     fn place(walk: &Self::Walk<'_>) -> (u64, Vec<u64>);
+    fn pack_weighted(width: u64, batch: &[u8], out: &mut [u8], list: &mut [i32]) -> Answer;
+    fn union_weighted(a: &[u8], a_list: &[i32], b: &[u8], b_list: &[i32], out: &mut [u8], list: &mut [i32]) -> Answer;
+    fn difference_weighted(a: &[u8], a_list: &[i32], b: &[u8], out: &mut [u8], list: &mut [i32]) -> Answer;
+    fn post(l: &[u8], list: &mut [i32], key: &[u8], amount: i32) -> Answer;
+    fn post_opened(opened: &Self::Opened<'_>, list: &mut [i32], key: &[u8], amount: i32) -> Answer;
 }
 
 pub fn expected(laid: &Laid, question: &Question, out: &mut [u8]) -> Answer {
@@ -168,6 +175,56 @@ macro_rules! differential_tests {
         #[test]
         fn large_encodings_damaged() {
             cases::rounds("large_encodings_damaged", 20, cases::large_damaged::<$subject>);
+        }
+
+        #[test]
+        fn weighted_examples() {
+            cases::check_weighted_examples::<$subject>();
+        }
+
+        #[test]
+        fn weighted_story() {
+            cases::check_story::<$subject>();
+        }
+
+        #[test]
+        fn weighted_packs() {
+            cases::rounds("weighted_packs", 1_000, cases::weighted_packs::<$subject>);
+        }
+
+        #[test]
+        fn posts() {
+            cases::rounds("posts", 300, cases::posts::<$subject>);
+        }
+
+        #[test]
+        fn weighted_joins() {
+            cases::rounds("weighted_joins", 300, cases::weighted_joins::<$subject>);
+        }
+
+        #[test]
+        fn sums_at_both_ends() {
+            cases::rounds("sums_at_both_ends", 200, cases::sums_at_both_ends::<$subject>);
+        }
+
+        #[test]
+        fn weighted_refusals_in_order() {
+            cases::rounds("weighted_refusals_in_order", 1, cases::weighted_refusals::<$subject>);
+        }
+
+        #[test]
+        fn weighted_boundaries() {
+            cases::rounds("weighted_boundaries", 1, cases::weighted_boundaries::<$subject>);
+        }
+
+        #[test]
+        fn weights_at_the_limit() {
+            cases::rounds("weights_at_the_limit", 1, cases::weights_at_the_limit::<$subject>);
+        }
+
+        #[test]
+        fn weighted_histories() {
+            cases::rounds("weighted_histories", 300, |rng| check_weighted_history::<$subject>(rng, 80));
         }
     };
 }

@@ -88,15 +88,7 @@ pub fn walks<S: Subject>(rng: &mut Rng) {
 pub fn joins<S: Subject>(rng: &mut Rng) {
     let width = random_width(rng);
     let most = if rng.one_in(10) { 40_000 / width + 1 } else { 60 };
-    let a = random_set(rng, width, most);
-    let mut b = random_set(rng, width, most);
-    // shared keys
-    match rng.below(5) {
-        0 => b = a.clone(),
-        1 => b.keys.extend(a.keys.iter().filter(|_| rng.one_in(2)).cloned()),
-        2 => b.keys = a.keys.iter().filter(|_| !rng.one_in(3)).cloned().collect(),
-        _ => (),
-    }
+    let [a, mut b] = operands(rng, width, most);
     if rng.one_in(12) {
         let other = random_width(rng);
         b = random_set(rng, other, 20);
@@ -113,6 +105,7 @@ pub fn join_limits<S: Subject>(rng: &mut Rng) {
                 let [a, b] = [first, records - first].map(|records| set_with_records(rng, width, records).lay());
                 assert_eq!(a.bits() + b.bits(), 2 * records);
                 check_join::<S>(rng, &a, &b);
+                check_join_weighted::<S>(rng, &a, &b);
             }
         }
     }
@@ -125,6 +118,9 @@ pub fn join_limits<S: Subject>(rng: &mut Rng) {
         check_join::<S>(rng, &below, &above);
         check_join::<S>(rng, &above, &below);
         check_join::<S>(rng, &above, &above);
+        check_join_weighted::<S>(rng, &below, &below);
+        check_join_weighted::<S>(rng, &below, &above);
+        check_join_weighted::<S>(rng, &above, &below);
     }
 }
 
@@ -223,8 +219,8 @@ pub fn boundaries<S: Subject>(rng: &mut Rng) {
             check_read::<S>(rng, &bytes, &Ok(laid.clone()), 12);
             check_members::<S>(&laid);
             check_keys::<S>(&laid);
-            let part = Set::new(*width, set.keys.iter().filter(|_| rng.one_in(2)).cloned());
-            check_join::<S>(rng, &laid, &part.lay());
+            let part = random_part(rng, &set, 2).lay();
+            check_join::<S>(rng, &laid, &part);
         }
     }
 }
@@ -278,7 +274,7 @@ pub fn at_the_limit<S: Subject>(rng: &mut Rng) {
             let other = set_with_records(rng, width, records).lay();
             check_join::<S>(rng, &laid, &other);
         }
-        let part = Set::new(width, set.keys.iter().filter(|_| rng.one_in(3)).cloned()).lay();
+        let part = random_part(rng, &set, 3).lay();
         check_join::<S>(rng, &laid, &part);
         check_join::<S>(rng, &laid, &laid);
     }

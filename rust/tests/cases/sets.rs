@@ -137,6 +137,24 @@ pub fn random_set(rng: &mut Rng, width: usize, most: usize) -> Set {
     Set::new(width, keys)
 }
 
+/// Two sets that share keys, most often; of one width.
+pub fn operands(rng: &mut Rng, width: usize, most: usize) -> [Set; 2] {
+    let a = random_set(rng, width, most);
+    let mut b = random_set(rng, width, most);
+    match rng.below(4) {
+        0 => b = a.clone(),
+        1 => b.keys.extend(a.keys.iter().filter(|_| rng.one_in(2)).cloned()),
+        2 => b.keys = a.keys.iter().filter(|_| !rng.one_in(3)).cloned().collect(),
+        _ => (),
+    }
+    [a, b]
+}
+
+/// A random part of a set: one key in so many.
+pub fn random_part(rng: &mut Rng, set: &Set, many: usize) -> Set {
+    Set::new(set.width, set.keys.iter().filter(|_| rng.one_in(many)).cloned())
+}
+
 /// A set with exactly so many records: it has twice as many edge bits.
 pub fn set_with_records(rng: &mut Rng, width: usize, records: usize) -> Set {
     assert!(records >= width && (width >= 30 || records < 1 << width));

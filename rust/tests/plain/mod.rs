@@ -6,6 +6,10 @@
 //!
 //! Numbers are answered as the C interface answers them: `Ok(Some(value))`, `Ok(None)` for absent or none, `Err(refusal)`.
 
+mod weights;
+
+pub use weights::*;
+
 use std::collections::{BTreeMap, BTreeSet};
 
 pub type Key = Vec<u8>;

@@ -40,7 +40,7 @@ module _ (s : tie.Start) where
   few = omega (arith, held-bits m b (now (s .args .edges)) (sealed .holds), sealed .holds .few)
 
   long : length (encode e) ≡ endOf m b
-  long = held-length m b (now (s .args .edges)) sealed
+  long = held-length m b (now (s .args .edges)) (held-bits m b (now (s .args .edges)) (sealed .holds))
 
 -- the encoding fits
 module _ (c : tie.Else1) where

@@ -12,6 +12,7 @@ use Rattle.loes.specs.Read.{levelBytes, edgeBytes, blockBytes, subBlockBytes, b
 use Rattle.loes.specs.Held.{entryHeld}
 use Rattle.build.specs.Writing.{HoldsOnly, Shaped, standing}
 use Rattle.build.proofs.Front.{part, part-room, behind, length-zs}
+use Rattle.build.proofs.Shape.{held-bits}
 use Rattle.build.proofs.Fields.{shapeFields, edgeFields, shape-length, edge-length, sealed-length, sealed-small, held-length, held-encode}
 use Rattle.build.proofs.Standing.{edges-end}
 use borrow.Author.Needs.{needs}
@@ -96,7 +97,7 @@ module _ (v : tie.After-level-ends) where
   whole = held-encode (m s) (b s) (l s) (sealed s) ends (v .level-ends .result) shaped
 
   fits : length shape + length (edgeFields (b s) (l s)) ≤ length (xs s)
-  fits = omega (arith, ap length whole, length-append shape (edgeFields (b s) (l s)), held-length (m s) (b s) (l s) (sealed s), room s)
+  fits = omega (arith, ap length whole, length-append shape (edgeFields (b s) (l s)), held-length (m s) (b s) (l s) (held-bits (m s) (b s) (l s) (sealed s .holds)), room s)
 
 -- fields 1 to 3 are written
 module _ (p : tie.After-put-shape) where

@@ -12,6 +12,7 @@ use Rattle.loes.specs.Encode.{encode}
 use Rattle.loes.specs.Read.{edgeBytes, endOf}
 use Rattle.loes.specs.Held.{entryHeld}
 use Rattle.build.specs.Writing.{HoldsOnly, standing}
+use Rattle.build.proofs.Shape.{held-bits}
 use Rattle.build.proofs.Fields.{sealed-length, held-length}
 use Rattle.build.proofs.Standing.{edges-end, stands, length-put, covered}
 use Rattle.build.proofs.write_fitting.Statement.{statement}
@@ -116,7 +117,7 @@ returns c =
     let k = a .before .before .before .before in
     let w = placed k in
     a .write-around-edges .ensures ∙ ap (λ x. front (encode (entryHeld (m (s k)) (b (s k)) x)) (zs k)) (edges-there k)
-    ∙ covered (m (s k)) (b (s k)) (at w) (n w) (xs (s k)) (ys k) (w .edges-start .ensures) (size w) (long k) (room (s k)) (encode (entryHeld (m (s k)) (b (s k)) (l (s k)))) (held-length (m (s k)) (b (s k)) (l (s k)) (sealed (s k)))
+    ∙ covered (m (s k)) (b (s k)) (at w) (n w) (xs (s k)) (ys k) (w .edges-start .ensures) (size w) (long k) (room (s k)) (encode (entryHeld (m (s k)) (b (s k)) (l (s k)))) (held-length (m (s k)) (b (s k)) (l (s k)) (held-bits (m (s k)) (b (s k)) (l (s k)) (sealed (s k) .holds)))
 
 pub write-fitting-spec : {M : Type 1} → statement M
 write-fitting-spec =

@@ -12,7 +12,7 @@ use Rattle.merge.specs.Union.{QueueRoom}
 use Rattle.join.specs.declared.Join.the-variants as join
 use Rattle.join.specs.declared.Pair.the-variants.{Opened}
 use Rattle.join.specs.Joining.{Both, joinOf, joinCall}
-use Rattle.join.proofs.Joins.{opens-short, opens-over, first-holds, second-holds, joined, joined-call}
+use Rattle.join.proofs.Joins.{opens-short, opens-over, first-holds, second-holds, join-refused, joined, joined-call}
 use borrow.Author.Needs.{needs}
 use Rattle.join.proofs.join_with.Statement.{statement}
 use Rattle.join.proofs.join_with.Tie as tie
@@ -131,9 +131,9 @@ write-joined-requires-2 c κs =
     let j = c .before .before .before .before .before .before in
     let k = j .before .before .before .before .before .before .before in
     let o = both k in (
-      joined join.Difference (a k) (b k) (e k) (f k) (o .0) (o .1) (o .2) (now (start k .args .edges)) _ (j .subtracted .result) (j .subtracted .ensures),
+      joined join.Difference (a k) (b k) (e k) (f k) (o .0) (o .1) (o .2) (now (start k .args .edges)) _ (j .subtracted .result .edges) (j .subtracted .ensures .edges),
       start k .pre .1,
-      omega (arith, start k .pre .0 .edges, j .subtracted .ensures .size),
+      omega (arith, start k .pre .0 .edges, j .subtracted .ensures .edges .size),
     )
 
 returns : tie.Need-returns
@@ -141,7 +141,7 @@ unfolding writtenOutcome refusal
 returns c =
     let o = c .before .before .before in
     let s = o .before .before .before .before .before .before .before in
-    sym (subst (Both (now (s .args .a)) (now (s .args .b))) (c .before .pair .given .1) (o .open-both .ensures) (joinOf (s .args .kind)) (now (s .args .out)))
+    sym (join-refused (joinOf (s .args .kind)) (now (s .args .a)) (now (s .args .b)) (now (s .args .out)) (c .before .pair .given .0 .0) (subst (Both (now (s .args .a)) (now (s .args .b))) (c .before .pair .given .1) (o .open-both .ensures)))
 
 same-length : tie.Need-same-length
 same-length c = search needs
@@ -177,7 +177,7 @@ returns-3 c =
     let o = both k in
     let out = now (start k .args .out) in
     w .write-joined2 .ensures
-    ∙ joined-call join.Difference (a k) (b k) (e k) (f k) (o .0) (o .1) (o .2) (now (start k .args .edges)) _ (j .subtracted .result) (j .subtracted .ensures) out
+    ∙ joined-call join.Difference (a k) (b k) (e k) (f k) (o .0) (o .1) (o .2) (now (start k .args .edges)) _ (j .subtracted .result .edges) (j .subtracted .ensures .edges) out
     ∙ ap (λ x. joinCall (joinOf x) (a k) (b k) out) (sym (j .before .before .before .before .before .enum-told2 .given .1))
 
 pub join-with-spec : {M : Type 1} → statement M

@@ -1,90 +1,19 @@
-use native.Mathlib.Omega.{arith}
+use Rattle.merge.proofs.Queue.{united}
 use borrow.Author.Needs.{needs}
 use Rattle.join.proofs.united.Statement.{statement}
 use Rattle.join.proofs.united.Tie as tie
 
-add-if1 : tie.Need-add-if1
-add-if1 c = search needs
+merged-requires : tie.Need-merged-requires
+merged-requires c κs = search needs
 
-mul-if1 : tie.Need-mul-if1
-mul-if1 c = record { fits = omega (arith, c .before .before .before .pre .0 .0 .narrow) }
-
-add-if1-2 : tie.Need-add-if1-2
-add-if1-2 c = record { fits = omega (arith, c .before .before .before .pre .0 .0 .narrow) }
-
-slice-aggregate-unite : tie.Need-slice-aggregate-unite
-slice-aggregate-unite c = search needs
-
-slice-aggregate-unite-2 : tie.Need-slice-aggregate-unite-2
-slice-aggregate-unite-2 c = search needs
-
-slice-aggregate-unite-3 : tie.Need-slice-aggregate-unite-3
-slice-aggregate-unite-3 c = search needs
-
-unite-requires : tie.Need-unite-requires
-unite-requires c κs =
-    let s = c .before .before .before .before .before .before .before .before in
-    (s .pre .0, (s .pre .1 .0, (λ h. absurd (omega arith), s .pre .1 .1)))
+seal-requires : tie.Need-seal-requires
+seal-requires c κs = search needs
 
 same-length : tie.Need-same-length
 same-length c = search needs
 
 returns : tie.Need-returns
-returns c = search needs
-
-slice-aggregate-fill : tie.Need-slice-aggregate-fill
-slice-aggregate-fill c = search needs
-
-slice-aggregate-fill-2 : tie.Need-slice-aggregate-fill-2
-slice-aggregate-fill-2 c = search needs
-
-slice-aggregate-fill-3 : tie.Need-slice-aggregate-fill-3
-slice-aggregate-fill-3 c = search needs
-
-fill-requires : tie.Need-fill-requires
-fill-requires c κs = search needs
-
-slice-aggregate-unite-4 : tie.Need-slice-aggregate-unite-4
-slice-aggregate-unite-4 c = search needs
-
-slice-aggregate-unite-5 : tie.Need-slice-aggregate-unite-5
-slice-aggregate-unite-5 c = search needs
-
-slice-aggregate-unite-6 : tie.Need-slice-aggregate-unite-6
-slice-aggregate-unite-6 c = search needs
-
-unite-requires-2 : tie.Need-unite-requires-2
-unite-requires-2 c κs =
-    let f = c .before .before .before .before .before .before .before in
-    let s = c .before .before .before .before .before .before .before .before .before .before .before .before .before .before .before in
-    (s .pre .0, (s .pre .1 .0, (λ h. f .fill .ensures, s .pre .1 .1)))
-
-same-length-2 : tie.Need-same-length-2
-same-length-2 c = search needs
-
-returns-2 : tie.Need-returns-2
-returns-2 c = search needs
+returns c = united (c .before .before .before .before .before .before .merged .ensures) (c .before .before .seal .ensures)
 
 pub united-spec : {M : Type 1} → statement M
-united-spec =
-    tie.close
-    (tie.spec
-    add-if1
-    mul-if1
-    add-if1-2
-    slice-aggregate-unite
-    slice-aggregate-unite-2
-    slice-aggregate-unite-3
-    unite-requires
-    same-length
-    returns
-    slice-aggregate-fill
-    slice-aggregate-fill-2
-    slice-aggregate-fill-3
-    fill-requires
-    slice-aggregate-unite-4
-    slice-aggregate-unite-5
-    slice-aggregate-unite-6
-    unite-requires-2
-    same-length-2
-    returns-2)
+united-spec = tie.close (tie.spec merged-requires seal-requires same-length returns)

@@ -14,7 +14,7 @@ mark-requires c κs =
     let g = c .before .before .before .before in
     let s = g .before .before .before .before .before .before .before .before .before in
     let v = g .merge .ensures in
-    ((v .fits, omega (arith, v .size, s .pre .1 .1 .1 .0 .small), subtract-entries (s .pre .0 .0) v), λ l. let t = s .pre .1 .1 .0 l in (t .0, t .1))
+    ((v .flags .fits, omega (arith, v .size, s .pre .1 .1 .1 .0 .small), subtract-entries (s .pre .0 .0) v), λ l. let t = s .pre .1 .1 .0 l in (t .0, t .1))
 
 collect-requires : tie.Need-collect-requires
 collect-requires c κs =
@@ -24,7 +24,7 @@ collect-requires c κs =
     let v = g .merge .ensures in
     let w = k .mark .ensures in
     let r = s .pre .1 .1 .1 in
-    ((omega (arith, v .fits, w .size), omega (arith, v .fits, v .size, r .0 .small), omega (arith, subtracted-count (s .pre .0 .0) v w, r .1)), s .pre .1 .1 .0)
+    ((omega (arith, v .flags .fits, w .size), omega (arith, v .flags .fits, v .size, r .0 .small), omega (arith, subtracted-count (s .pre .0 .0) v w, r .1)), s .pre .1 .1 .0)
 
 same-length : tie.Need-same-length
 same-length c = search needs
