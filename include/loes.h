@@ -27,8 +27,8 @@
  *     is there, as long as the length says. What is lent as `const` is only read; what is lent for
  *     output or to be changed shares no byte with anything else lent to the same call. Two encodings
  *     may be the same bytes, and two lists the same entries.
- *   - What a call works with is on the stack: allow it 384 KiB (measured: a join 336,440 bytes at
- *     most, every other call less than 8 KiB).
+ *   - What a call works with is on the stack: allow it 384 KiB (measured: a join some 335,000
+ *     bytes at most, every other call less than 8 KiB).
  *
  * Link with target/staticlib/libcapi.a, made by `rt staticlib capi`.
  */
