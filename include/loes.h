@@ -6,13 +6,17 @@
  * by their bytes. An encoding is a set of keys of one width in at most LOES_MAX_BYTES bytes; one
  * set has exactly one encoding.
  *
+ * A prefix is the first `prefix_bits` bits of a key, 0 to its width, laid out as a key of so many bits:
+ * it takes prefix_bits/8 bytes, rounded up, and unused low bits of the last byte are zero. One of 0 bits
+ * takes no bytes, and the pointer to it is still not null.
+ *
  * Weights of keys stand in a list beside an encoding, as many entries as it has members: entry i is
  * the weight of the key with member index i.
  *
  * Conventions, for every call:
  *
  *   - Any content and any length is legal. Nothing is trusted: an encoding is checked whole before
- *     it is used, and keys, indexes, offsets, cursors, lists, sums and outputs are tested.
+ *     it is used, and keys, prefixes, indexes, offsets, cursors, lists, sums and outputs are tested.
  *   - A refused call answers with the number of the first refusal that holds, in the order of the
  *     call, and changes nothing: every lent byte, every entry and every offset keeps its value.
  *   - An accepted result stands at the front of its output; the bytes or entries behind it keep
@@ -62,8 +66,8 @@ typedef enum loes_refusal {
     LOES_TRAILING_BYTES = 6,  /* bytes after the sixth field */
     LOES_NOT_AN_ENCODING = 7, /* well-formed fields that are the encoding of no set */
     /* whoever asks a question, or posts */
-    LOES_BAD_KEY = 8,         /* a key of another length than the width's, or with an unused bit set */
-    LOES_OUT_OF_RANGE = 9,    /* a member index not below the count, or an edge offset not below the edge bits */
+    LOES_BAD_KEY = 8,         /* a key or a prefix of another length than its bits take, or with an unused bit set */
+    LOES_OUT_OF_RANGE = 9,    /* a member index not below the count, an edge offset above the edge bits, or more prefix bits than the width */
     /* whoever sent a batch */
     LOES_RAGGED_BATCH = 10,   /* a byte count that is no multiple of a key's */
     LOES_UNUSED_BIT_SET = 11, /* a key with an unused bit set */
@@ -101,13 +105,20 @@ typedef struct loes_answer {
     uint64_t value;   /* the answer; 0 unless found */
 } loes_answer;
 
-/* The numbers of an encoding; all 0 if it is refused. */
+/* The numbers of an encoding. */
 typedef struct loes_opened {
-    uint32_t refusal; /* 0: not refused; else a loes_refusal */
+    uint32_t refusal; /* 0: not refused; else a loes_refusal, and the others are 0 */
     uint32_t width;   /* bits of a key */
     uint64_t count;   /* members */
     uint64_t bits;    /* edge bits */
 } loes_opened;
+
+/* The member indexes of a prefix. */
+typedef struct loes_range {
+    uint32_t refusal;        /* 0: not refused; else a loes_refusal, and the others are 0 */
+    loes_member_index first; /* how many members' own first bits are smaller: the member index of the first that begins with the prefix, if one does */
+    uint64_t count;          /* how many members begin with the prefix */
+} loes_range;
 
 /* A place in a walk over the members; all 0 is before the first. */
 typedef struct loes_cursor {
@@ -135,7 +146,7 @@ loes_answer loes_union(const uint8_t *first, size_t first_length, const uint8_t 
 loes_answer loes_difference(const uint8_t *first, size_t first_length, const uint8_t *second, size_t second_length,
                             uint8_t *out, size_t room);
 
-/* ---- Questions. Refusals: those of opening, then the one named ---- */
+/* ---- Questions. Refusals: those of opening, then those named, in their order ---- */
 
 /* Whether the key is a member: found, with value 1, or not. Refusal 8. */
 loes_answer loes_contains(const uint8_t *encoding, size_t length, const uint8_t *key, size_t key_length);
@@ -149,8 +160,13 @@ loes_answer loes_lower_bound(const uint8_t *encoding, size_t length, const uint8
 /* Writes the key of a member index to the front of `out`: found, and the value is its length. Refusals 9, 14. */
 loes_answer loes_key_at(const uint8_t *encoding, size_t length, loes_member_index index, uint8_t *out, size_t room);
 
-/* The set edge bits at offsets 0 to `offset`, `offset` included: found, with their number. Refusal 9. */
+/* The set edge bits strictly before `offset`, which is at most the number of edge bits: found, with their number. Refusal 9. */
 loes_answer loes_rank(const uint8_t *encoding, size_t length, loes_edge_offset offset);
+
+/* How many members begin with a prefix of `prefix_bits` bits, and how many have smaller first bits: those that begin with it
+ * have the member indexes from first.index on, count of them. Every key begins with the prefix of 0 bits. Refusals 9, 8. */
+loes_range loes_prefix(const uint8_t *encoding, size_t length, uint64_t prefix_bits,
+                       const uint8_t *prefix, size_t prefix_length);
 
 /* ---- Walking ---- */
 

@@ -34,11 +34,12 @@ fn main() {
         table(random_keys::<8>(4_900), "random"),
         table(random_keys::<32>(1_030), "random"),
     ];
-    for table in &tables {
+    let clustered = [table(clustered_keys::<4>(96, 256), "clustered"), table(clustered_keys::<8>(100, 500), "clustered")];
+    for table in tables.iter().chain(&clustered) {
         table.print();
     }
-    table(clustered_keys::<4>(96, 256), "clustered").print();
-    table(clustered_keys::<8>(100, 500), "clustered").print();
+    println!("\n## Prefix beside index_of, in turns: in brackets the ratio to it\n");
+    beside_index_of(tables.iter().chain(&clustered));
     // many, so that a processor does not learn by heart what is at random
     memberships(&clustered_keys::<4>(500, 256));
     println!("\n## Growth with the width\n");
@@ -244,6 +245,38 @@ fn at_random(place: usize) -> usize {
     Rng(place as u64).next() as usize % 3
 }
 
+/// Prefixes of one number of bits, each as a key whose bits behind it are clear.
+struct Prefixes<const T: usize> {
+    bits: usize,
+    keys: Vec<[u8; T]>,
+}
+
+/// The bits of a key's byte that are behind so many first bits.
+fn behind(prefix_bits: usize, byte: usize) -> u8 {
+    (0xFFu16 >> prefix_bits.saturating_sub(8 * byte).min(8)) as u8
+}
+
+impl<const T: usize> Prefixes<T> {
+    /// The first bits of these keys.
+    fn of(keys: &[[u8; T]], prefix_bits: usize) -> Prefixes<T> {
+        let cut = |key: &[u8; T]| std::array::from_fn(|i| key[i] & !behind(prefix_bits, i));
+        Prefixes { bits: prefix_bits, keys: keys.iter().map(cut).collect() }
+    }
+
+    /// Its number of bits, and the bytes that they take.
+    fn given<'a>(&self, key: &'a [u8; T]) -> (u64, &'a [u8]) {
+        (self.bits as u64, &key[..self.bits.div_ceil(8)])
+    }
+
+    /// The same in a sorted array: how many keys are before the least that begins so, and how many from there to the greatest.
+    fn in_array(&self, keys: &[[u8; T]], least: &[u8; T]) -> (u64, u64) {
+        let greatest: [u8; T] = std::array::from_fn(|i| least[i] | behind(self.bits, i));
+        let first = keys.partition_point(|key| key < least);
+        let count = keys[first..].partition_point(|key| *key <= greatest);
+        (first as u64, count as u64)
+    }
+}
+
 fn packed<const T: usize>(keys: &[[u8; T]]) -> Vec<u8> {
     let mut out = vec![0u8; 68_695];
     let length = plain_rust::pack(8 * T as u64, &keys.concat(), &mut out).expect("the keys are within the limits");
@@ -332,13 +365,31 @@ fn table<const T: usize>(keys: Vec<[u8; T]>, shape: &'static str) -> Table {
             Some(least(q, || each(&asked, |key| hash.contains(key)))),
         ],
     );
-    row(
-        "index_of",
-        compare!(q, || each(&asked, |key| encoding.index_of(key)), || each(&asked, |key| plain_rust::index_of(
-            &bytes, &opened, key
-        ))),
-        [Some(least(q, || each(&asked, |key| keys.binary_search(key).ok()))), None, None],
+    let [few, half, whole] = [4, width / 2, width].map(|prefix_bits| Prefixes::of(&asked, prefix_bits));
+    #[cfg(feature = "linked")]
+    let in_library = |prefixes: &Prefixes<T>| {
+        each(&prefixes.keys, |key| {
+            let (prefix_bits, prefix) = prefixes.given(key);
+            encoding.prefix(prefix_bits, prefix)
+        })
+    };
+    let plain_prefix = |prefixes: &Prefixes<T>, key: &[u8; T]| {
+        let (prefix_bits, prefix) = prefixes.given(key);
+        plain_rust::prefix(&bytes, &opened, prefix_bits, prefix)
+    };
+    for prefixes in [&few, &half, &whole] {
+        let same = |key| plain_prefix(prefixes, key) == Ok(prefixes.in_array(&keys, key));
+        assert!(prefixes.keys.iter().all(same), "plain Rust and a sorted array tell the same");
+    }
+    let in_plain = |prefixes: &Prefixes<T>| each(&prefixes.keys, |key| plain_prefix(prefixes, key));
+    let [index_of, of_few, of_half, of_whole] = compare_all!(
+        q,
+        || each(&asked, |key| encoding.index_of(key)), || each(&asked, |key| plain_rust::index_of(&bytes, &opened, key));
+        || in_library(&few), || in_plain(&few);
+        || in_library(&half), || in_plain(&half);
+        || in_library(&whole), || in_plain(&whole)
     );
+    row("index_of", index_of, [Some(least(q, || each(&asked, |key| keys.binary_search(key).ok()))), None, None]);
     row(
         "lower_bound",
         compare!(q, || each(&asked, |key| encoding.lower_bound(key)), || each(&asked, |key| {
@@ -365,6 +416,11 @@ fn table<const T: usize>(keys: Vec<[u8; T]>, shape: &'static str) -> Table {
         })),
         [None; 3],
     );
+    for (name, times, prefixes) in
+        [("prefix of 4 bits", of_few, &few), ("prefix of half the bits", of_half, &half), ("prefix of all bits", of_whole, &whole)]
+    {
+        row(name, times, [Some(least(q, || each(&prefixes.keys, |key| prefixes.in_array(&keys, key)))), None, None]);
+    }
     let stepped = compare!(
         n,
         || {
@@ -685,6 +741,11 @@ fn rule(columns: usize) {
 }
 
 impl Table {
+    /// The rows whose names begin so.
+    fn named(&self, name: &str) -> Vec<&Row> {
+        self.rows.iter().filter(|row| row.name.starts_with(name)).collect()
+    }
+
     fn print(&self) {
         println!("\n## Width {}, {} {} keys, {} edge bits\n", self.width, self.count, self.shape, self.bits);
         line(std::iter::once(String::new()).chain(COLUMNS.map(String::from)));
@@ -694,6 +755,23 @@ impl Table {
             let ratio = ratio(row).map_or("–".to_string(), |ratio| format!("{ratio:.2}"));
             line([row.name.to_string(), cell(row.library), cell(row.plain), ratio, cell(array), cell(tree), cell(hash)]);
         }
+    }
+}
+
+/// One line for each table: what a prefix takes, and how many times what `index_of` takes.
+fn beside_index_of<'a>(tables: impl Iterator<Item = &'a Table>) {
+    let time = |row: &Row| row.library.or(row.plain).unwrap();
+    for (i, table) in tables.enumerate() {
+        let (index_of, prefixes) = (table.named("index_of"), table.named("prefix"));
+        if i == 0 {
+            let names = index_of.iter().chain(&prefixes).map(|row| row.name.to_string());
+            line(["width", "keys"].map(String::from).into_iter().chain(names));
+            rule(2 + prefixes.len());
+        }
+        let index_of = time(index_of[0]);
+        let cells = prefixes.iter().map(|row| format!("{} ({:.2})", cell(Some(time(row))), time(row) / index_of));
+        let keys = format!("{} {}", table.count, table.shape);
+        line([table.width.to_string(), keys, cell(Some(index_of))].into_iter().chain(cells));
     }
 }
 

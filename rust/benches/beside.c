@@ -1,6 +1,6 @@
 /* Every call of several builds of the library, taken in turns in one program on the same inputs: for each call the least time
  * of each build, in nanoseconds, and its ratio to the first one's. Prints markdown; ends with 1 if two results differ. Calls
- * with weights are left out if a build has none.
+ * with weights are left out if a build has none; prefix is left out, as older builds have none.
  *
  *     beside REPETITIONS BUILD.so...
  */
@@ -39,6 +39,7 @@ stepped loes_unchecked_advance, loes_unchecked_next, loes_unchecked_walk;
 #define MEMBER(name) __typeof__(loes_##name) *name##_;
 struct build {
     FUNCTIONS(MEMBER)
+    uint64_t behind; /* what is added to an offset, so that its rank counts the bit at it */
 };
 
 static struct build builds[BUILDS];
@@ -176,7 +177,8 @@ QUESTION(contains, asked[i], key_bytes)
 QUESTION(index_of, asked[i], key_bytes)
 QUESTION(lower_bound, asked[i], key_bytes)
 QUESTION(key_at, indices[i], out, key_bytes)
-QUESTION(rank, offsets[i])
+/* an older build's rank includes its offset, a newer one's does not: each is asked for the set bits up to the same one, with it */
+QUESTION(rank, (loes_edge_offset){offsets[i].offset + b->behind})
 /* the amount 0, so that each build finds the same list */
 QUESTION(post, first_weights, opened.count, asked[i], key_bytes, 0)
 
@@ -211,6 +213,13 @@ static uint64_t iteration(const struct build *b) {
         for (size_t at = key_bytes; at <= s.answer.value; at += key_bytes) sum = told(sum, s.answer.found, many[at - 1]);
     }
     return sum;
+}
+
+/* 1 if a build's rank counts the bits strictly before its offset: it then takes the one behind the last, here 16. */
+static uint64_t counts_before(const struct build *b) {
+    static const uint8_t key[1];
+    size_t length = written(b->pack_(8, key, 1, out, ROOM));
+    return b->rank_(out, length, (loes_edge_offset){16}).refusal == 0;
 }
 
 /* ---- Measuring ---- */
@@ -313,6 +322,7 @@ int main(int count, char **words) {
 #define FIND(name) builds[build_count].name##_ = dlsym(library, "loes_" #name);
         FUNCTIONS(FIND)
         if (!builds[build_count].unchecked_post_) weighted = 0;
+        builds[build_count].behind = counts_before(&builds[build_count]);
     }
     for (size_t i = 0; i < MOST; i++) first_weights[i] = (int32_t)(i % 1000) - 500, second_weights[i] = 7;
     printf("| keys | call | first, ns |");

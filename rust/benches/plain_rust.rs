@@ -269,10 +269,10 @@ fn ones_on(f: &Fields, from: usize, ones: usize, o: usize) -> usize {
 }
 
 pub fn rank(l: &[u8], e: &Opened, offset: u64) -> Result<u64, u64> {
-    if offset >= e.bits as u64 {
+    if offset > e.bits as u64 {
         return Err(9);
     }
-    Ok(ones_before(&e.fields(l), offset as usize + 1) as u64)
+    Ok(ones_before(&e.fields(l), offset as usize) as u64)
 }
 
 fn key_fits(e: &Opened, key: &[u8]) -> Result<(), u64> {
@@ -283,18 +283,24 @@ fn key_fits(e: &Opened, key: &[u8]) -> Result<(), u64> {
     Ok(())
 }
 
-/// How many members are smaller than the key, and whether it is one: one rank a level.
+/// The record that the first p bits of a key lead to, or the one that they would have, and whether they do: one rank a level.
+#[inline(always)]
+fn descend(f: &Fields, key: &[u8], p: usize) -> (usize, bool) {
+    let (mut record, mut found) = (0, true);
+    for d in 0..p {
+        let edge = 2 * record + usize::from(found && bit_at(key, d));
+        found = found && bit_at(f.edges, edge);
+        record = 1 + ones_before(f, edge);
+    }
+    (record, found)
+}
+
+/// How many members are smaller than the key, and whether it is one.
 fn locate(l: &[u8], e: &Opened, key: &[u8]) -> (usize, bool) {
     if e.bits == 0 {
         return (0, false);
     }
-    let f = e.fields(l);
-    let (mut record, mut found) = (0, true);
-    for d in 0..e.width {
-        let edge = 2 * record + usize::from(found && bit_at(key, d));
-        found = found && bit_at(f.edges, edge);
-        record = 1 + ones_before(&f, edge);
-    }
+    let (record, found) = descend(&e.fields(l), key, e.width);
     (record - e.bits / 2, found)
 }
 
@@ -313,6 +319,41 @@ pub fn lower_bound(l: &[u8], e: &Opened, key: &[u8]) -> Result<Option<u64>, u64>
     key_fits(e, key)?;
     let (smaller, _) = locate(l, e, key);
     Ok((smaller < e.count).then_some(smaller as u64))
+}
+
+// ---- Prefix
+
+/// A prefix has no more bits than a key, or 9; it is as long as they take, and no bit behind them is set, or 8.
+fn prefix_fits(e: &Opened, prefix_bits: u64, prefix: &[u8]) -> Result<usize, u64> {
+    if prefix_bits > e.width as u64 {
+        return Err(9);
+    }
+    let p = prefix_bits as usize;
+    if prefix.len() != key_len(p) || prefix.last().is_some_and(|x| u32::from(*x) % (1 << (8 * key_len(p) - p)) != 0) {
+        return Err(8);
+    }
+    Ok(p)
+}
+
+/// The members before the boundary in front of a record, so many levels above them: one rank a level.
+fn members_before(f: &Fields, e: &Opened, mut record: usize, levels: usize) -> usize {
+    for _ in 0..levels {
+        record = 1 + ones_before(f, 2 * record);
+    }
+    record - e.bits / 2
+}
+
+/// How many members' own first bits are smaller than a prefix, and how many begin with it.
+pub fn prefix(l: &[u8], e: &Opened, prefix_bits: u64, prefix: &[u8]) -> Result<(u64, u64), u64> {
+    let p = prefix_fits(e, prefix_bits, prefix)?;
+    if e.bits == 0 {
+        return Ok((0, 0));
+    }
+    let f = e.fields(l);
+    let (record, found) = descend(&f, prefix, p);
+    let first = members_before(&f, e, record, e.width - p);
+    let behind = if found { members_before(&f, e, record + 1, e.width - p) } else { first };
+    Ok((first as u64, (behind - first) as u64))
 }
 
 // ---- Select and key_at

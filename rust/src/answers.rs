@@ -1,7 +1,7 @@
 //! What the C interface answers, as Rust values.
 
-use crate::ffi::Answer;
-use crate::{Posting, Refusal};
+use crate::ffi::{Answer, Range};
+use crate::{Posting, PrefixRange, Refusal};
 
 pub(crate) fn refusal(number: u32) -> Refusal {
     match Refusal::from_number(u64::from(number)) {
@@ -26,6 +26,14 @@ pub(crate) fn value(answer: Answer) -> Result<u64, Refusal> {
 /// A number of bytes.
 pub(crate) fn length(answer: Answer) -> Result<usize, Refusal> {
     value(answer).map(|length| length as usize)
+}
+
+/// The member indexes of a prefix.
+pub(crate) fn range(range: Range) -> Result<PrefixRange, Refusal> {
+    match range {
+        Range { refusal: 0, first, count } => Ok(PrefixRange { first, count }),
+        Range { refusal: number, .. } => Err(refusal(number)),
+    }
 }
 
 /// Whether the key was there to be posted to.

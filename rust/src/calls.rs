@@ -1,6 +1,6 @@
 //! The calls on bytes. Each checks the encodings it is lent, every time.
 
-use crate::{answers, ffi, Cursor, EdgeOffset, Encoding, MemberIndex, Posting, Refusal};
+use crate::{answers, ffi, Cursor, EdgeOffset, Encoding, MemberIndex, Posting, PrefixRange, Refusal};
 
 /// Writes the encoding of a batch's keys to the front of the buffer and tells its length. A batch is keys of `width` bits laid
 /// end to end in rising order; equal neighbours are one key.
@@ -138,18 +138,34 @@ pub fn key_at(encoding: &[u8], index: MemberIndex, out: &mut [u8]) -> Result<usi
     answers::length(ffi::key_at(encoding, index, out))
 }
 
-/// The set bits of the edge sequence at offsets 0 to this one, this one included. [`Encoding::rank`] asks without checking the
-/// encoding again.
+/// The set bits of the edge sequence strictly before an offset, which is at most its length. [`Encoding::rank`] asks without
+/// checking the encoding again.
 ///
 /// ```
 /// use loes::EdgeOffset;
 ///
 /// let bytes = loes::pack_to_vec(3, &[0x60])?;
-/// assert_eq!(loes::rank(&bytes, EdgeOffset(5))?, 3);
+/// assert_eq!(loes::rank(&bytes, EdgeOffset(6))?, 3);
 /// # Ok::<(), loes::Refusal>(())
 /// ```
 pub fn rank(encoding: &[u8], offset: EdgeOffset) -> Result<u64, Refusal> {
     answers::value(ffi::rank(encoding, offset))
+}
+
+/// The members that begin with the prefix, by their member indexes. A prefix is `prefix_bits` bits, 0 to the width, in
+/// prefix_bits/8 bytes, rounded up, with unused low bits of the last byte zero. [`Encoding::prefix`] asks without checking the
+/// encoding again.
+///
+/// ```
+/// use loes::MemberIndex;
+///
+/// let bytes = loes::pack_to_vec(3, &[0x00, 0x60, 0xC0])?;
+/// let range = loes::prefix(&bytes, 1, &[0x80])?;
+/// assert_eq!((range.first, range.count), (MemberIndex(2), 1));
+/// # Ok::<(), loes::Refusal>(())
+/// ```
+pub fn prefix(encoding: &[u8], prefix_bits: u64, prefix: &[u8]) -> Result<PrefixRange, Refusal> {
+    answers::range(ffi::prefix(encoding, prefix_bits, prefix))
 }
 
 /// Moves a cursor on to the next member and writes that member to the front of the buffer. [`Encoding::advance`] does it without

@@ -4,7 +4,7 @@
 /// use loes::{Encoding, EdgeOffset};
 ///
 /// let bytes = loes::pack_to_vec(3, &[0x00, 0x60, 0xC0])?;
-/// assert_eq!(Encoding::open(&bytes)?.rank(EdgeOffset(9))?, 7);
+/// assert_eq!(Encoding::open(&bytes)?.rank(EdgeOffset(10))?, 7);
 /// # Ok::<(), loes::Refusal>(())
 /// ```
 #[repr(C)]

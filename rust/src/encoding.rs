@@ -1,7 +1,7 @@
 use std::fmt;
 use std::iter::FusedIterator;
 
-use crate::{answers, ffi, Cursor, EdgeOffset, MemberIndex, Posting, Refusal};
+use crate::{answers, ffi, Cursor, EdgeOffset, MemberIndex, Posting, PrefixRange, Refusal};
 
 /// An opened encoding: bytes that have been checked whole, once, and their numbers. Every question is asked behind that check.
 ///
@@ -215,18 +215,39 @@ impl<'a> Encoding<'a> {
         answers::length(self.checked.key_at(index, out))
     }
 
-    /// The set bits of the edge sequence at offsets 0 to this one, this one included.
+    /// The set bits of the edge sequence strictly before an offset, which is at most [`bits`](Encoding::bits).
     ///
     /// ```
     /// # use loes::{EdgeOffset, Encoding, Refusal};
     /// let bytes = loes::pack_to_vec(3, &[0x00, 0x60, 0xC0])?;
     /// let set = Encoding::open(&bytes)?;
-    /// assert_eq!(set.rank(EdgeOffset(9)), Ok(7));
-    /// assert_eq!(set.rank(EdgeOffset(12)), Err(Refusal::OutOfRange));
+    /// assert_eq!(set.rank(EdgeOffset(0)), Ok(0));
+    /// assert_eq!(set.rank(EdgeOffset(10)), Ok(7));
+    /// assert_eq!(set.rank(EdgeOffset(12)), Ok(8));
+    /// assert_eq!(set.rank(EdgeOffset(13)), Err(Refusal::OutOfRange));
     /// # Ok::<(), Refusal>(())
     /// ```
     pub fn rank(&self, offset: EdgeOffset) -> Result<u64, Refusal> {
         answers::value(self.checked.rank(offset))
+    }
+
+    /// The members that begin with the prefix, by their member indexes. A prefix is `prefix_bits` bits, 0 to the width, in
+    /// prefix_bits/8 bytes, rounded up, with unused low bits of the last byte zero. Every key begins with the prefix of 0 bits,
+    /// which takes no bytes.
+    ///
+    /// ```
+    /// # use loes::{Encoding, MemberIndex, PrefixRange, Refusal};
+    /// let bytes = loes::pack_to_vec(3, &[0x00, 0x60, 0xC0])?;
+    /// let set = Encoding::open(&bytes)?;
+    /// assert_eq!(set.prefix(1, &[0x00]), Ok(PrefixRange { first: MemberIndex(0), count: 2 }));
+    /// assert_eq!(set.prefix(2, &[0x80]), Ok(PrefixRange { first: MemberIndex(2), count: 0 }));
+    /// assert_eq!(set.prefix(0, &[])?.count, set.len());
+    /// assert_eq!(set.prefix(1, &[0x40]), Err(Refusal::BadKey));
+    /// assert_eq!(set.prefix(4, &[0x40]), Err(Refusal::OutOfRange));
+    /// # Ok::<(), Refusal>(())
+    /// ```
+    pub fn prefix(&self, prefix_bits: u64, prefix: &[u8]) -> Result<PrefixRange, Refusal> {
+        answers::range(self.checked.prefix(prefix_bits, prefix))
     }
 
     /// Moves a cursor on to the next member, writes that member to the front of the buffer and tells its length; 0 if the cursor

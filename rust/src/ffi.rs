@@ -44,6 +44,15 @@ pub struct Opened {
     pub bits: u64,
 }
 
+/// The refusal's number or 0, and the member indexes of a prefix.
+#[repr(C)]
+#[derive(Clone, Copy, Debug, PartialEq, Eq)]
+pub struct Range {
+    pub refusal: u32,
+    pub first: MemberIndex,
+    pub count: u64,
+}
+
 /// A cursor in numbers.
 #[repr(C)]
 #[derive(Clone, Debug, PartialEq, Eq)]
@@ -71,6 +80,7 @@ extern "C" {
     fn loes_lower_bound(l: *const u8, n: usize, key: *const u8, k: usize) -> Answer;
     fn loes_key_at(l: *const u8, n: usize, index: MemberIndex, out: *mut u8, m: usize) -> Answer;
     fn loes_rank(l: *const u8, n: usize, offset: EdgeOffset) -> Answer;
+    fn loes_prefix(l: *const u8, n: usize, prefix_bits: u64, prefix: *const u8, k: usize) -> Range;
     fn loes_advance(l: *const u8, n: usize, cursor: *mut Cursor, out: *mut u8, m: usize) -> Answer;
     fn loes_post(l: *const u8, n: usize, weights: *mut i32, w: usize, key: *const u8, k: usize, amount: i32) -> Answer;
     fn loes_pack_weighted(width: u64, batch: *const u8, n: usize, out: *mut u8, m: usize, weights: *mut i32, w: usize) -> Answer;
@@ -82,6 +92,7 @@ extern "C" {
     fn loes_unchecked_lower_bound(width: u64, count: u64, bits: u64, l: *const u8, n: usize, key: *const u8, k: usize) -> Answer;
     fn loes_unchecked_key_at(width: u64, count: u64, bits: u64, l: *const u8, n: usize, index: MemberIndex, out: *mut u8, m: usize) -> Answer;
     fn loes_unchecked_rank(width: u64, count: u64, bits: u64, l: *const u8, n: usize, offset: EdgeOffset) -> Answer;
+    fn loes_unchecked_prefix(width: u64, count: u64, bits: u64, l: *const u8, n: usize, prefix_bits: u64, prefix: *const u8, k: usize) -> Range;
     fn loes_unchecked_advance(width: u64, count: u64, bits: u64, l: *const u8, n: usize, state: u64, offsets: *mut EdgeOffset, offset_count: usize, out: *mut u8, m: usize) -> StateAnswer;
     fn loes_unchecked_post(width: u64, count: u64, bits: u64, l: *const u8, n: usize, weights: *mut i32, w: usize, key: *const u8, k: usize, amount: i32) -> Answer;
     // and with a right cursor
@@ -140,6 +151,10 @@ pub fn key_at(l: &[u8], index: MemberIndex, out: &mut [u8]) -> Answer {
 
 pub fn rank(l: &[u8], offset: EdgeOffset) -> Answer {
     unsafe { loes_rank(l.as_ptr(), l.len(), offset) }
+}
+
+pub fn prefix(l: &[u8], prefix_bits: u64, prefix: &[u8]) -> Range {
+    unsafe { loes_prefix(l.as_ptr(), l.len(), prefix_bits, prefix.as_ptr(), prefix.len()) }
 }
 
 pub fn advance(l: &[u8], cursor: &mut Cursor, out: &mut [u8]) -> Answer {
@@ -215,6 +230,16 @@ impl<'a> OpenedBytes<'a> {
     pub fn rank(&self, offset: EdgeOffset) -> Answer {
         let OpenedBytes { bytes, width, count, bits } = *self;
         unsafe { loes_unchecked_rank(width, count, bits, bytes.as_ptr(), bytes.len(), offset) }
+    }
+
+    #[rustfmt::skip]
+    pub fn prefix(&self, prefix_bits: u64, prefix: &[u8]) -> Range {
+        let OpenedBytes { bytes, width, count, bits } = *self;
+        unsafe {
+            loes_unchecked_prefix(
+                width, count, bits, bytes.as_ptr(), bytes.len(), prefix_bits, prefix.as_ptr(), prefix.len(),
+            )
+        }
     }
 
     #[rustfmt::skip]

@@ -24,6 +24,10 @@
 //! assert_eq!(set.index_of(&[0xFF, 0xFF])?, Some(MemberIndex(3)));
 //! assert_eq!(set.lower_bound(&[0x01, 0x01])?, Some(MemberIndex(1)));
 //!
+//! // how many keys begin with the eight bits 0x01, and where they stand
+//! let range = set.prefix(8, &[0x01])?;
+//! assert_eq!((range.first, range.count), (MemberIndex(0), 2));
+//!
 //! // keys come back in order
 //! let keys: Vec<Vec<u8>> = Encoding::open(&rest)?.keys().collect();
 //! assert_eq!(keys, [[0x01, 0x00], [0x2A, 0x00]]);
@@ -97,11 +101,13 @@ mod encoding;
 pub mod ffi;
 #[cfg(feature = "linked")]
 mod posting;
+#[cfg(feature = "linked")]
+mod prefix;
 
 #[cfg(feature = "linked")]
 pub use calls::{
     advance, contains, difference, difference_to_vec, difference_weighted, difference_weighted_to_vec, index_of, key_at,
-    lower_bound, pack, pack_to_vec, pack_weighted, pack_weighted_to_vec, post, rank, union, union_to_vec, union_weighted,
+    lower_bound, pack, pack_to_vec, pack_weighted, pack_weighted_to_vec, post, prefix, rank, union, union_to_vec, union_weighted,
     union_weighted_to_vec,
 };
 #[cfg(feature = "linked")]
@@ -112,3 +118,5 @@ pub use cursor::{Cursor, State};
 pub use encoding::{Encoding, Keys};
 #[cfg(feature = "linked")]
 pub use posting::Posting;
+#[cfg(feature = "linked")]
+pub use prefix::PrefixRange;

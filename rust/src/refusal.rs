@@ -25,9 +25,9 @@ pub enum Refusal {
     TrailingBytes = 6,
     /// Well-formed fields that are the encoding of no set.
     NotAnEncoding = 7,
-    /// A key of the wrong length, or with an unused bit set.
+    /// A key or a prefix of the wrong length, or with an unused bit set.
     BadKey = 8,
-    /// A member index not below the count, or an edge offset not below the edge bits.
+    /// A member index not below the count, an edge offset above the edge bits, or more prefix bits than the width.
     OutOfRange = 9,
     /// A batch whose byte count is no multiple of a key's.
     RaggedBatch = 10,
@@ -100,8 +100,10 @@ impl Refusal {
             TooLarge => "the set has more than 524,280 edge bits",
             TrailingBytes => "bytes follow the sixth field",
             NotAnEncoding => "the fields are well formed, but are the encoding of no set",
-            BadKey => "the key does not have the width's length in bytes, or has an unused bit set",
-            OutOfRange => "the member index is not below the count, or the edge offset not below the edge bits",
+            BadKey => "the key or the prefix is not as long as its bits take, or has an unused bit set",
+            OutOfRange => {
+                "the member index is not below the count, the edge offset is above the edge bits, or the prefix is longer than a key"
+            }
             RaggedBatch => "the batch's byte count is no multiple of a key's",
             UnusedBitSet => "a key of the batch has an unused bit set",
             Descending => "a key of the batch is smaller than the one before it",

@@ -4,8 +4,8 @@
 mod cases;
 mod plain;
 
-use loes::{ffi, Cursor, EdgeOffset, Encoding, MemberIndex, Posting, Refusal, State};
-use plain::{key_len, Answer, Set};
+use loes::{ffi, Cursor, EdgeOffset, Encoding, MemberIndex, Posting, PrefixRange, Refusal, State};
+use plain::{key_len, Answer, RangeAnswer, Set};
 
 struct Library;
 
@@ -45,6 +45,17 @@ fn index(result: Result<Option<MemberIndex>, Refusal>) -> Answer {
 
 fn posting(result: Result<Posting, Refusal>) -> Answer {
     number(result).map(|posting| (posting == Posting::Posted).then_some(1))
+}
+
+/// The Rust answer, which has the numbers of the C one; refused, that one has no other.
+fn range(result: Result<PrefixRange, Refusal>, numbers: ffi::Range) -> RangeAnswer {
+    let answer = number(result);
+    let right = match answer {
+        Ok(PrefixRange { first, count }) => ffi::Range { refusal: 0, first, count },
+        Err(refusal) => ffi::Range { refusal: refusal as u32, first: MemberIndex(0), count: 0 },
+    };
+    assert_eq!(numbers, right);
+    answer.map(|range| plain::PrefixRange { first: range.first.0, count: range.count })
 }
 
 /// Encodings are built, opened and asked through the Rust interface; cursors in numbers, so that any can be given.
@@ -87,6 +98,14 @@ impl Subject for Library {
             Question::KeyAt(index) => length(encoding.key_at(MemberIndex(*index), out)),
             Question::Rank(offset) => number(encoding.rank(EdgeOffset(*offset))).map(Some),
         }
+    }
+
+    fn prefix(l: &[u8], prefix_bits: u64, prefix: &[u8]) -> RangeAnswer {
+        range(loes::prefix(l, prefix_bits, prefix), ffi::prefix(l, prefix_bits, prefix))
+    }
+
+    fn prefix_opened((checked, encoding): &Self::Opened<'_>, prefix_bits: u64, prefix: &[u8]) -> RangeAnswer {
+        range(encoding.prefix(prefix_bits, prefix), checked.prefix(prefix_bits, prefix))
     }
 
     fn advance(l: &[u8], state: u64, offsets: &mut [u64], out: &mut [u8]) -> (Answer, u64) {
@@ -146,7 +165,12 @@ fn answers_in_numbers() {
     assert_eq!([ffi::contains(&P2, &[0xA0]), ffi::index_of(&P2, &[0xA0]), ffi::lower_bound(&P2, &[0xE0])], [none; 3]);
     assert_eq!((ffi::index_of(&P2, &[0x00]), ffi::lower_bound(&P2, &[0xA0])), (value(0), value(2)));
     assert_eq!((ffi::contains(&P2, &[0x61]), ffi::index_of(&P2, &[0x61])), (refused(8), refused(8)));
-    assert_eq!(ffi::rank(&P2, EdgeOffset(12)), refused(9));
+    assert_eq!((ffi::rank(&P2, EdgeOffset(0)), ffi::rank(&P2, EdgeOffset(12))), (value(0), value(8)));
+    assert_eq!(ffi::rank(&P2, EdgeOffset(13)), refused(9));
+    let range = |refusal, first, count| ffi::Range { refusal, first: MemberIndex(first), count };
+    assert_eq!((ffi::prefix(&P2, 0, &[]), ffi::prefix(&P2, 2, &[0x80])), (range(0, 0, 3), range(0, 2, 0)));
+    assert_eq!((ffi::prefix(&P2, 2, &[0xA0]), ffi::prefix(&P2, 4, &[0xA0])), (range(8, 0, 0), range(9, 0, 0)));
+    assert_eq!(ffi::prefix(&P2[..47], 4, &[0xA0]), range(1, 0, 0));
     assert_eq!(ffi::pack(0, &[], &mut []), refused(4));
     assert_eq!(ffi::opened(&P2), ffi::Opened { refusal: 0, width: 3, count: 3, bits: 12 });
     assert_eq!(ffi::opened(&P2[..47]), ffi::Opened { refusal: 1, width: 0, count: 0, bits: 0 });
@@ -196,6 +220,29 @@ fn keys_in_order() {
         }
         assert_eq!((all, keys.fill(&mut [])), (batch_of(&set), Ok(0)));
         assert_eq!((encoding.is_empty(), encoding.key_len()), (set.keys.is_empty(), key_len(width)));
+    });
+}
+
+/// A range's indexes are those of the members that begin with the prefix, from either end, and their number is known.
+#[test]
+fn indexes_of_a_prefix() {
+    rounds("indexes_of_a_prefix", 100, |rng| {
+        let width = random_width(rng);
+        let laid = random_set(rng, width, 60).lay();
+        let bytes = laid.encode();
+        let encoding = Encoding::open(&bytes).unwrap();
+        for Prefix { bits, bytes: prefix } in some_prefixes(rng, &laid, 6) {
+            if laid.prefix(bits, &prefix).is_err() {
+                continue;
+            }
+            let range = encoding.prefix(bits, &prefix).unwrap();
+            let begins = |key: &[u8]| plain::prefix(key, bits as usize) == prefix;
+            let right = (0..).zip(&laid.set.keys).filter(|(_, key)| begins(key)).map(|(i, _)| MemberIndex(i));
+            let right: Vec<MemberIndex> = right.collect();
+            assert_eq!(range.indexes().collect::<Vec<_>>(), right);
+            assert!(range.indexes().rev().eq(right.iter().rev().copied()));
+            assert_eq!((range.indexes().len(), range.indexes().next()), (right.len(), right.first().copied()));
+        }
     });
 }
 
@@ -285,7 +332,8 @@ fn stack() {
         assert_eq!(loes::index_of(&a, &key), Ok(Some(MemberIndex(0))));
         assert_eq!(loes::lower_bound(&a, &key), Ok(Some(MemberIndex(0))));
         assert_eq!(loes::key_at(&a, MemberIndex(count - 1), &mut out), Ok(key.len()));
-        assert_eq!(loes::rank(&a, EdgeOffset(0)), Ok(1));
+        assert_eq!(loes::rank(&a, EdgeOffset(1)), Ok(1));
+        assert_eq!(loes::prefix(&a, 0, &[]), Ok(PrefixRange { first: MemberIndex(0), count }));
         assert_eq!(loes::advance(&a, &mut cursor, &mut out), Ok(key.len()));
         assert_eq!(Encoding::open(&a).map(|encoding| encoding.len()), Ok(count));
         assert_eq!(loes::pack_weighted(19, &batch, &mut out, &mut list), Ok(a.len()));

@@ -6,7 +6,7 @@ mod plain;
 #[path = "../benches/plain_rust.rs"]
 mod plain_rust;
 
-use plain::Answer;
+use plain::{Answer, PrefixRange, RangeAnswer};
 use plain_rust::{Cursor, Opened};
 
 struct PlainRust;
@@ -49,6 +49,16 @@ impl Subject for PlainRust {
             Question::KeyAt(index) => length(plain_rust::key_at(l, e, *index, out)),
             Question::Rank(offset) => plain_rust::rank(l, e, *offset).map(Some),
         }
+    }
+
+    fn prefix(l: &[u8], prefix_bits: u64, prefix: &[u8]) -> RangeAnswer {
+        let (opened, _) = Self::open(l)?;
+        Self::prefix_opened(&opened, prefix_bits, prefix)
+    }
+
+    fn prefix_opened((l, e): &(&[u8], Opened), prefix_bits: u64, prefix: &[u8]) -> RangeAnswer {
+        let (first, count) = plain_rust::prefix(l, e, prefix_bits, prefix)?;
+        Ok(PrefixRange { first, count })
     }
 
     fn advance(l: &[u8], state: u64, offsets: &mut [u64], out: &mut [u8]) -> (Answer, u64) {

@@ -1,9 +1,10 @@
-//! The reference against document 01's examples and refusals, and against worked examples of weights. Needs no library.
+//! The reference against document 01's examples and refusals, and against worked examples of prefixes and of weights. Needs no
+//! library.
 
 #[allow(dead_code)]
 mod plain;
 
-use plain::{pack, read, Account, Answer, Cursor, Laid, Set, Walk, Weighed};
+use plain::{pack, read, Account, Answer, Cursor, Laid, PrefixRange, RangeAnswer, Set, Walk, Weighed};
 
 fn of(width: usize, keys: &[u8]) -> Laid {
     Set::new(width, keys.iter().map(|key| vec![*key])).lay()
@@ -43,7 +44,7 @@ fn p2_to_p4() {
     assert_eq!(p2().encode(), p2_bytes());
     assert_eq!(packed(3, &[0x00, 0x60, 0xC0]), Ok(p2_bytes()));
     assert_eq!(read(&p2_bytes()), Ok(p2()));
-    assert_eq!(p2().rank(9), Ok(Some(7)));
+    assert_eq!(p2().rank(10), Ok(Some(7)));
     assert_eq!(p2().index_of(&[0x60]), Ok(Some(1)));
     assert_eq!(p2().contains(&[0xA0]), Ok(None));
     assert!(!p2().edges[4]);
@@ -167,6 +168,45 @@ fn index_entries() {
     assert_eq!(blocks, [0, 0, 0, 0, 0, 0, 0, 0, 0, 0, 0, 0, 0, 1, 0, 0]);
     assert_eq!(sub_blocks.len(), 2 * 129);
     assert_eq!(sub_blocks[2 * 127..], [0xFE, 0x00, 0x00, 0x00]);
+}
+
+/// P2's edges are 111101100110: every offset from 0 to b, and the first above it.
+#[test]
+fn ranks() {
+    let ranks: Vec<Answer> = (0..14).map(|offset| p2().rank(offset)).collect();
+    let right = [0, 1, 2, 3, 4, 4, 5, 6, 6, 6, 7, 8, 8];
+    assert_eq!(ranks[..13], right.map(|count| Ok(Some(count))));
+    assert_eq!((ranks[13], p2().rank(u64::MAX)), (Err(9), Err(9)));
+    let empty = of(3, &[]);
+    assert_eq!((empty.rank(0), empty.rank(1)), (Ok(Some(0)), Err(9)));
+}
+
+/// P2 is {000, 011, 110}: every prefix of each length, counted by hand.
+#[test]
+fn prefixes() {
+    let range = |first, count| -> RangeAnswer { Ok(PrefixRange { first, count }) };
+    let asked = |prefix_bits, bytes: &[u8]| p2().prefix(prefix_bits, bytes);
+    assert_eq!(asked(0, &[]), range(0, 3));
+    assert_eq!([0x00, 0x80].map(|byte| asked(1, &[byte])), [range(0, 2), range(2, 1)]);
+    assert_eq!([0x00, 0x40, 0x80, 0xC0].map(|byte| asked(2, &[byte])), [range(0, 1), range(1, 1), range(2, 0), range(2, 1)]);
+    let threes = [0x00, 0x20, 0x40, 0x60, 0x80, 0xA0, 0xC0, 0xE0].map(|byte| asked(3, &[byte]));
+    let right = [(0, 1), (1, 0), (1, 0), (1, 1), (2, 0), (2, 0), (2, 1), (3, 0)];
+    assert_eq!(threes, right.map(|(first, count)| range(first, count)));
+    // 8: another length, an unused bit set
+    for (bits, bytes) in [(0, &[0][..]), (1, &[]), (1, &[0, 0]), (1, &[0x40]), (1, &[0x81]), (2, &[0x20]), (3, &[0x61])] {
+        assert_eq!(asked(bits, bytes), Err(8), "{bits} bits {bytes:02X?}");
+    }
+    // 9, also where 8 holds
+    for (bits, bytes) in [(4, &[0x60][..]), (4, &[0x61]), (4, &[]), (8, &[0xFF]), (u64::MAX, &[]), (1 << 32, &[])] {
+        assert_eq!(asked(bits, bytes), Err(9), "{bits} bits {bytes:02X?}");
+    }
+    // bit and byte order agree across a byte; only the first bits are compared
+    let wide = Set::new(12, [[0x0F, 0xF0], [0x10, 0x00], [0x10, 0x10], [0x1F, 0xF0]].map(|key| key.to_vec())).lay();
+    assert_eq!((wide.prefix(8, &[0x10]), wide.prefix(9, &[0x10, 0x00])), (range(1, 2), range(1, 2)));
+    assert_eq!((wide.prefix(9, &[0x10, 0x80]), wide.prefix(7, &[0x10])), (range(3, 0), range(1, 2)));
+    assert_eq!((wide.prefix(8, &[0x10, 0x00]), wide.prefix(9, &[0x10])), (Err(8), Err(8)));
+    // the empty set has none, of any length
+    assert_eq!([0, 1, 3].map(|bits| of(3, &[]).prefix(bits, &[0][..usize::from(bits > 0)])), [range(0, 0); 3]);
 }
 
 /// P2's walk: each member's edges are set, and its last edge has the rank that its index asks for.

@@ -9,20 +9,19 @@ use lib.ListN.{take, drop, getD}
 use lib.Seq.{getD-drop, take-at}
 use lib.Count
 use Rattle.loes.specs.Bytes.{Bytes, odd, tabulate, bitAt, bitsIn, bitsValue}
-use Rattle.loes.specs.Edges.{ones, onesBefore}
-use Rattle.loes.proofs.Lists.{ones-append}
+use Rattle.loes.specs.Edges.{ones, rank}
+use Rattle.loes.proofs.Lists.{ones-append, ones-le}
 use Rattle.loes.proofs.Bytes.{length-tabulate}
 use Rattle.loes.proofs.Bits.{at-bit, tabulate-ext, count-bitsValue, byte-bitsValue, bit-odd, bitsValue-snoc, tabulate-add, length-bitsIn}
-use Rattle.loes.proofs.Seven.{ones-le}
 use Rattle.bits.specs.Tables.{bits8}
 
 pub ones-bits-le : (l : Bytes) (n : ℕ) → ones (bitsIn l n) ≤ n
 ones-bits-le l n = omega (arith, ones-le (bitsIn l n), length-bitsIn l n)
 
 -- the first k of b bits
-pub before-bits : (l : Bytes) (b k : ℕ) → k ≤ b → onesBefore (bitsIn l b) k ≡ ones (bitsIn l k)
-unfolding onesBefore bitsIn
-before-bits l b k h =
+pub rank-bits : (l : Bytes) (b k : ℕ) → k ≤ b → rank (bitsIn l b) k ≡ ones (bitsIn l k)
+unfolding rank bitsIn
+rank-bits l b k h =
     let z : k + (b - k) ≡ b = omega arith in
     ap (λ n. ones (take k (tabulate (bitAt l) n))) (sym z)
     ∙ rw (tabulate-add (bitAt l) k (b - k), take-at (tabulate (bitAt l) k) (tabulate (λ (j : ℕ). bitAt l (k + j)) (b - k)) k (length-tabulate (bitAt l) k))

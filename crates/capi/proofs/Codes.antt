@@ -23,7 +23,8 @@ use Rattle.weights.specs.Weights.{Weights, outputs}
 use Rattle.weights.specs.Answers.{weightedOutcome}
 use Rattle.capi.specs.declared.Answer.{Answer}
 use Rattle.capi.specs.declared.Opened.{Opened}
-use Rattle.capi.specs.Coded.{codeOf, Given, gives, coded, Positive, opening, noOpening, openingOf, Tells}
+use Rattle.capi.specs.declared.Range.{Range}
+use Rattle.capi.specs.Coded.{codeOf, Given, gives, coded, Positive, opening, noOpening, openingOf, Tells, rangeOf}
 use Rattle.capi.proofs.NoZero.{zero-is-no-refusal}
 
 pub told : {L : Type 0} {r : Answer} (o : OutcomeOf L) → r ≡ codeOf (o .answer) → gives r (o .buffers) ≡ coded o
@@ -96,3 +97,7 @@ module _ (l : Bytes) (m n b : ℕ) (told : Tells m n b l) where
         blocks = cc (p .blocks, k .width, k .bits);
         sub-blocks = cc (p .sub-blocks, k .width, k .bits);
       }
+
+-- ---- Prefixes
+pub range-onward : {r : Range} {o o' : Outcome} → o ≡ o' → r ≡ rangeOf (o .answer) → r ≡ rangeOf (o' .answer)
+range-onward q p = p ∙ ap (λ (x : Outcome). rangeOf (x .answer)) q

@@ -11,8 +11,8 @@ use Rattle.loes.specs.Keys.{Key, smaller}
 use Rattle.loes.specs.Entry.{Entry, keysOf, count}
 use Rattle.loes.specs.Refusals.{Tests, test, firstOf}
 use Rattle.loes.specs.Read.{fieldTests, headTests, tailTests, readTests, readingOf, read, entryIn}
-use Rattle.loes.specs.Model.{Answer, isPresent, isAbsent, isNone, indexIs, rankIs, isPosted, OutcomeOf, StepOf, refusal, refusedOr, tested, answers, writes, writesKey, keyIn, keyTest, belowTest, batchKeys, risingTests, packTests, pack, joinTests, union, difference, opens, contains, indexOf, keyAt, rankAt, lowerBound}
-use Rattle.loes.specs.Calls.{afterReading, reading, openCall, packCall, unionCall, differenceCall, containsCall, indexOfCall, lowerBoundCall, keyAtCall, rankCall}
+use Rattle.loes.specs.Model.{Answer, isPresent, isAbsent, isNone, indexIs, rankIs, rangeIs, isPosted, OutcomeOf, StepOf, refusal, refusedOr, tested, answers, writes, writesKey, keyIn, keyTest, belowTest, atMostTest, batchKeys, risingTests, packTests, pack, joinTests, union, difference, opens, contains, indexOf, keyAt, rankAt, lowerBound, prefixTests, prefix}
+use Rattle.loes.specs.Calls.{afterReading, reading, openCall, packCall, unionCall, differenceCall, containsCall, indexOfCall, lowerBoundCall, keyAtCall, rankCall, prefixCall}
 use Rattle.loes.specs.Cursor.{Cursor, stays, goesTo, goesToAfter, staysOr, hasNext, nextKey, advanceTests, advance, advanceReading, advanceCall}
 use Rattle.weights.specs.Weights.{Weights, outputs, WeightedOutcome, leaving, checked, listTest, sumTest, writesWith, post, packWeightedCall, postCall, unionWeighted, unionWeightedCall, differenceWeighted, differenceWeightedCall}
 use Rattle.capi.specs.Coded.{Positive, ZeroIsNoRefusal}
@@ -82,9 +82,9 @@ tested-positive ts bufs done a p = go (firstOf ts) (first-numbered ts a)
     go none h = unfold refusedOr in p
     go (some k) h = unfold refusedOr refusal in h
 
-answers-positive : (t : Option ℕ) (a : Answer) → Numbered t → Positive a → Positive (answers (t ∷ []) a .outcome .answer)
+answers-positive : (ts : Tests) (a : Answer) → AllNumbered ts → Positive a → Positive (answers ts a .outcome .answer)
 unfolding answers
-answers-positive t a h p = tested-positive (t ∷ []) [] _ (h, tt) p
+answers-positive ts a h p = tested-positive ts [] _ h p
 
 writes-positive : (ts : Tests) (es : List Entry) (bufs : List Bytes) → AllNumbered ts → Positive (writes ts es bufs .outcome .answer)
 unfolding writes
@@ -112,13 +112,17 @@ join-tests : (e f : Entry) → AllNumbered (joinTests e f)
 unfolding joinTests
 join-tests e f = (test-numbered _ 13 (omega arith), tt)
 
-key-numbered : (e : Entry) (x : Bytes) → Numbered (keyTest e x)
+key-numbered : (m : ℕ) (x : Bytes) → Numbered (keyTest m x)
 unfolding keyTest
-key-numbered e x = test-numbered _ 8 (omega arith)
+key-numbered m x = test-numbered _ 8 (omega arith)
 
 below-numbered : (i n : ℕ) → Numbered (belowTest i n)
 unfolding belowTest
 below-numbered i n = test-numbered _ 9 (omega arith)
+
+at-most-numbered : (i n : ℕ) → Numbered (atMostTest i n)
+unfolding atMostTest
+at-most-numbered i n = test-numbered _ 9 (omega arith)
 
 advance-positive : (e : Entry) (c : Cursor) (out : Bytes) → Positive (advance e c out .answer)
 unfolding advance advanceTests
@@ -150,19 +154,19 @@ difference-positive a b out = reading-positive a _ _ (λ e. reading-positive b _
 
 contains-positive : (l x : Bytes) → Positive (containsCall l x .answer)
 unfolding containsCall contains
-contains-positive l x = reading-positive l _ _ (λ e. answers-positive (keyTest e x) _ (key-numbered e x) (cond-positive (e .set (keyIn (e .width) x)) isPresent isAbsent tt tt))
+contains-positive l x = reading-positive l _ _ (λ e. answers-positive _ _ (key-numbered (e .width) x, tt) (cond-positive (e .set (keyIn (e .width) x)) isPresent isAbsent tt tt))
 
 index-positive : (l x : Bytes) → Positive (indexOfCall l x .answer)
 unfolding indexOfCall indexOf
 index-positive l x = reading-positive l _ _ (λ e.
     let k = keyIn (e .width) x in
-    answers-positive (keyTest e x) _ (key-numbered e x) (cond-positive (e .set k) (indexIs (smaller k (keysOf e))) isAbsent tt tt))
+    answers-positive _ _ (key-numbered (e .width) x, tt) (cond-positive (e .set k) (indexIs (smaller k (keysOf e))) isAbsent tt tt))
 
 bound-positive : (l x : Bytes) → Positive (lowerBoundCall l x .answer)
 unfolding lowerBoundCall lowerBound
 bound-positive l x = reading-positive l _ _ (λ e.
     let n = smaller (keyIn (e .width) x) (keysOf e) in
-    answers-positive (keyTest e x) _ (key-numbered e x) (cond-positive (eqb n (count e)) isNone (indexIs n) tt tt))
+    answers-positive _ _ (key-numbered (e .width) x, tt) (cond-positive (eqb n (count e)) isNone (indexIs n) tt tt))
 
 key-positive : (l : Bytes) (i : ℕ) (out : Bytes) → Positive (keyAtCall l i out .answer)
 unfolding keyAtCall keyAt writesKey
@@ -170,7 +174,11 @@ key-positive l i out = reading-positive l _ _ (λ e. tested-positive _ _ _ (belo
 
 rank-positive : (l : Bytes) (o : ℕ) → Positive (rankCall l o .answer)
 unfolding rankCall rankAt
-rank-positive l o = reading-positive l _ _ (λ e. answers-positive _ (rankIs _) (below-numbered o _) tt)
+rank-positive l o = reading-positive l _ _ (λ e. answers-positive _ (rankIs _) (at-most-numbered o _, tt) tt)
+
+prefix-positive : (l : Bytes) (p : ℕ) (x : Bytes) → Positive (prefixCall l p x .answer)
+unfolding prefixCall prefix prefixTests
+prefix-positive l p x = reading-positive l _ _ (λ e. answers-positive _ (rangeIs _ _) (at-most-numbered p _, (key-numbered p x, tt)) tt)
 
 step-positive : (l : Bytes) (c : Cursor) (out : Bytes) → Positive (advanceCall l c out .answer)
 unfolding advanceCall read
@@ -202,7 +210,7 @@ post-positive : (l : Bytes) (ws : Weights) (x : Bytes) (amount : ℤ) → Positi
 unfolding postCall post
 post-positive l ws x amount =
     reading-positive l _ _ (λ e.
-    checked-positive _ [] ws _ (list-numbered e ws, (key-numbered e x, (test-numbered _ 17 (omega arith), tt))) (posted-positive (e .set (keyIn (e .width) x)) _ ws))
+    checked-positive _ [] ws _ (list-numbered e ws, (key-numbered (e .width) x, (test-numbered _ 17 (omega arith), tt))) (posted-positive (e .set (keyIn (e .width) x)) _ ws))
 
 pack-weighted-positive : (m : ℕ) (batch out : Bytes) (ws : Weights) → Positive (packWeightedCall m batch out ws .answer)
 unfolding packWeightedCall
@@ -232,6 +240,7 @@ zero-is-no-refusal =
       lowerBound = bound-positive;
       keyAt = key-positive;
       rank = rank-positive;
+      prefix = prefix-positive;
       advance = step-positive;
       post = post-positive;
       packWeighted = pack-weighted-positive;

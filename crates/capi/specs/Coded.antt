@@ -7,11 +7,12 @@ use lib.IntN.{ℤ}
 use lib.Dec.{eqb}
 use Rattle.loes.specs.Bytes.{Bytes}
 use Rattle.loes.specs.Model as model
-use Rattle.loes.specs.Calls.{openCall, packCall, unionCall, differenceCall, containsCall, indexOfCall, lowerBoundCall, keyAtCall, rankCall}
+use Rattle.loes.specs.Calls.{openCall, packCall, unionCall, differenceCall, containsCall, indexOfCall, lowerBoundCall, keyAtCall, rankCall, prefixCall}
 use Rattle.loes.specs.Cursor.{Cursor, advanceCall}
 use Rattle.weights.specs.Weights.{Weights, packWeightedCall, postCall, unionWeightedCall, differenceWeightedCall}
 use Rattle.capi.specs.declared.Answer.{Answer}
 use Rattle.capi.specs.declared.Opened.{Opened}
+use Rattle.capi.specs.declared.Range.{Range}
 
 -- refused: the number, and nothing else
 abbrev pub refuses : ℕ → Answer
@@ -29,7 +30,7 @@ abbrev pub lengthIn : List ℕ → ℕ
 lengthIn [] = 0
 lengthIn (n ∷ ns) = n
 
--- present and posted are 1; a step to after writes no key; opening has an answer of its own, below
+-- present and posted are 1; a step to after writes no key; opening and a prefix have answers of their own, below
 abbrev pub codeOf : model.Answer → Answer
 codeOf (model.refused k) = refuses k
 codeOf (model.wrote ns) = says (lengthIn ns)
@@ -41,6 +42,7 @@ codeOf model.isNone = nothing
 codeOf model.isPosted = says 1
 codeOf (model.indexIs i) = says i
 codeOf (model.rankIs r) = says r
+codeOf (model.rangeIs i n) = says i
 
 -- ---- 0 says that a call is not refused
 abbrev pub Positive : model.Answer → Type 0
@@ -54,6 +56,7 @@ Positive model.isNone = Unit {0}
 Positive model.isPosted = Unit {0}
 Positive (model.indexIs i) = Unit {0}
 Positive (model.rankIs r) = Unit {0}
+Positive (model.rangeIs i n) = Unit {0}
 
 -- no call is refused with 0, whatever it is given
 pub record ZeroIsNoRefusal : Type 0 where
@@ -66,6 +69,7 @@ pub record ZeroIsNoRefusal : Type 0 where
   pub lowerBound : (l x : Bytes) → Positive (lowerBoundCall l x .answer)
   pub keyAt : (l : Bytes) (i : ℕ) (out : Bytes) → Positive (keyAtCall l i out .answer)
   pub rank : (l : Bytes) (o : ℕ) → Positive (rankCall l o .answer)
+  pub prefix : (l : Bytes) (p : ℕ) (x : Bytes) → Positive (prefixCall l p x .answer)
   pub advance : (l : Bytes) (c : Cursor) (out : Bytes) → Positive (advanceCall l c out .answer)
   pub post : (l : Bytes) (ws : Weights) (x : Bytes) (amount : ℤ) → Positive (postCall l ws x amount .answer)
   pub packWeighted : (m : ℕ) (batch out : Bytes) (ws : Weights) → Positive (packWeightedCall m batch out ws .answer)
@@ -104,7 +108,30 @@ openingOf model.isNone = noOpening 0
 openingOf model.isPosted = noOpening 0
 openingOf (model.indexIs i) = noOpening 0
 openingOf (model.rankIs r) = noOpening 0
+openingOf (model.rangeIs i n) = noOpening 0
 
 -- these are the numbers that opening tells of bytes: what the functions behind the check rely on
 abbrev pub Tells : ℕ → ℕ → ℕ → Bytes → Type 0
 Tells m n b l = openCall l .answer ≡ model.tells m n b
+
+-- ---- Prefixes
+-- the members that begin with one: n of them, from index i on
+abbrev pub range : ℕ → ℕ → Range
+range i n = record { refusal = 0; first = record { 0 = i }; count = n }
+
+abbrev pub noRange : ℕ → Range
+noRange k = record { refusal = k; first = record { 0 = 0 }; count = 0 }
+
+-- a prefix answers only the first two
+abbrev pub rangeOf : model.Answer → Range
+rangeOf (model.rangeIs i n) = range i n
+rangeOf (model.refused k) = noRange k
+rangeOf (model.wrote ns) = noRange 0
+rangeOf (model.wroteKey n) = noRange 0
+rangeOf (model.tells m n b) = noRange 0
+rangeOf model.isPresent = noRange 0
+rangeOf model.isAbsent = noRange 0
+rangeOf model.isNone = noRange 0
+rangeOf model.isPosted = noRange 0
+rangeOf (model.indexIs i) = noRange 0
+rangeOf (model.rankIs r) = noRange 0

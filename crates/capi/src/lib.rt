@@ -8,17 +8,18 @@ ghost use Rattle.loes.specs.Bytes.{Bytes};
 ghost use Rattle.loes.specs.Read.{entryIn, opened};
 ghost use Rattle.loes.specs.Cursor.{isCursorOf};
 ghost use Rattle.loes.specs.Model as model;
-ghost use Rattle.loes.specs.Calls.{openCall, packCall, unionCall, differenceCall, containsCall, indexOfCall, lowerBoundCall, keyAtCall, rankCall};
+ghost use Rattle.loes.specs.Calls.{openCall, packCall, unionCall, differenceCall, containsCall, indexOfCall, lowerBoundCall, keyAtCall, rankCall, prefixCall};
 ghost use Rattle.bits.specs.Tables.{Tallies};
 ghost use Rattle.encoding.specs.Opened.{Opens};
 ghost use Rattle.encoding.specs.Answers.{rankedOutcome};
 ghost use Rattle.query.specs.Answers as query;
+ghost use Rattle.prefix.specs.Answers.{prefixedOutcome};
 ghost use Rattle.cursor.specs.Steps as cursor;
 ghost use Rattle.cursor.specs.Steps.{numbers};
 ghost use Rattle.build.specs.Writing as build;
 ghost use Rattle.weights.specs.Weights.{Weights, outputs, packWeightedCall, postCall, unionWeightedCall, differenceWeightedCall};
 ghost use Rattle.weights.specs.Answers as weights;
-ghost use Rattle.capi.specs.Coded.{refuses, says, nothing, codeOf, gives, coded, opening, noOpening, openingOf, Tells};
+ghost use Rattle.capi.specs.Coded.{refuses, says, nothing, codeOf, gives, coded, opening, noOpening, openingOf, Tells, rangeOf};
 ghost use Rattle.capi.specs.Steps.{stepGives, cursorGives, moves, stateCode, stateIn, cursorIn, isState, stepCoded, stepAfter, stepCall, cursorCall, walkCall};
 use bits::EdgeOffset;
 use bits::MemberIndex;
@@ -30,6 +31,7 @@ use encoding::Encoding;
 use encoding::Ranked;
 use encoding::Told;
 use loes::refusal::BAD_CURSOR;
+use prefix::Prefixed;
 use query::Bound;
 use query::Lookup;
 use query::Membership;
@@ -70,6 +72,14 @@ pub struct Opened {
     pub width: u32,
     pub count: usize,
     pub bits: usize,
+}
+
+// loes_range
+#[repr(C)]
+pub struct Range {
+    pub refusal: u32,
+    pub first: MemberIndex,
+    pub count: usize,
 }
 
 // loes_cursor
@@ -169,6 +179,23 @@ fn ranked(a: Ranked) -> Answer
     match a {
         Ranked::Refused(k) => refused(k),
         Ranked::Rank(n) => value(n),
+    }
+}
+
+fn ranged(a: Prefixed) -> Range
+    ensures { λ r. ⌜ r ≡ rangeOf (prefixedOutcome a .answer) ⌝ }
+{
+    match a {
+        Prefixed::Refused(k) => Range {
+            refusal: k as u32,
+            first: MemberIndex(0),
+            count: 0,
+        },
+        Prefixed::Range(first, count) => Range {
+            refusal: NOT_REFUSED,
+            first,
+            count,
+        },
     }
 }
 
@@ -293,12 +320,20 @@ pub extern "C" fn loes_key_at(l: &[u8], index: MemberIndex, out: &mut [u8]) -> A
     key_written(query::key_at(l, index, out))
 }
 
-// The set edge bits up to an offset, itself included.
+// The set edge bits strictly before an offset.
 #[no_mangle]
 pub extern "C" fn loes_rank(l: &[u8], offset: EdgeOffset) -> Answer
     ensures { λ r. ⌜ gives r [] ≡ coded (rankCall (now (l .entry)) (offset .0)) ⌝ }
 {
     ranked(encoding::rank(l, offset))
+}
+
+// How many members' own first bits are smaller than a prefix, and how many begin with it.
+#[no_mangle]
+pub extern "C" fn loes_prefix(l: &[u8], p: usize, bytes: &[u8]) -> Range
+    ensures { λ r. ⌜ r ≡ rangeOf (prefixCall (now (l .entry)) p (now (bytes .entry)) .answer) ⌝ }
+{
+    ranged(prefix::prefix(l, p, bytes))
 }
 
 // ---- Weights
@@ -526,6 +561,23 @@ pub extern "C" fn loes_unchecked_rank(
     let t = bits::tallies();
     let e = Encoding::new(width, count, bits);
     ranked(encoding::rank_in(l, &t, e, offset))
+}
+
+#[no_mangle]
+pub extern "C" fn loes_unchecked_prefix(
+    width: usize,
+    count: usize,
+    bits: usize,
+    l: &[u8],
+    p: usize,
+    bytes: &[u8],
+) -> Range
+    requires { ⌜ Tells width count bits (now l) ⌝ }
+    ensures { λ r. ⌜ r ≡ rangeOf (prefixCall (now (l .entry)) p (now (bytes .entry)) .answer) ⌝ }
+{
+    let t = bits::tallies();
+    let e = Encoding::new(width, count, bits);
+    ranged(prefix::prefix_in(l, &t, e, p, bytes))
 }
 
 #[no_mangle]

@@ -12,7 +12,7 @@ use lib.Dec.{eqb}
 use borrow.Author.Tests.{eq-eqb, ne-eqb}
 use Rattle.loes.specs.Bytes.{Bytes, bit, odd, bitAt, sameNumbers}
 use Rattle.loes.specs.Keys.{Key, anyOf}
-use Rattle.loes.specs.Edges.{edges, onesBefore}
+use Rattle.loes.specs.Edges.{edges, rank}
 use Rattle.loes.specs.Read.{entryIn}
 use Rattle.loes.specs.Entry.{Entry, keysOf, edgesOf, edgeCount, Valid}
 use Rattle.loes.specs.Cursor.{at, allZero, offsetsRight, pathOf, hasPath}
@@ -23,7 +23,8 @@ use Rattle.encoding.specs.declared.Encoding.{Encoding}
 use Rattle.encoding.specs.Opened.{Opens}
 use Rattle.encoding.proofs.Opened.{opens-edge}
 use Rattle.loes.proofs.Tests.{lt-no, yes-eq, both}
-use Rattle.query.proofs.BitLists.{up, set-below, rank-is}
+use Rattle.loes.proofs.Lists.{rank-set}
+use Rattle.query.proofs.BitLists.{up, set-below}
 use Rattle.query.proofs.Paths.{recordAt, Leading, leading-less}
 use Rattle.cursor.specs.Moves.{leadsOn, recordCode, turns, firstEdge, behind, movedOn, Moved, Movable}
 use Rattle.cursor.proofs.Right.{lead-right, right-leads}
@@ -117,13 +118,13 @@ check-first e os = record { on = unfold recordAt in refl; leads = tt }
 pub check-below : (e : List Bool) (r o : ℕ) → leadsOn e r o ≡ true → o < length e
 check-below e r o q = set-below e o (leads-yes e r o q .1)
 
-pub check-next : (e : List Bool) (os : List ℕ) (r d r' : ℕ) → PathChecked e os r d → leadsOn e r (getD os d 0) ≡ true → r' ≡ onesBefore e (getD os d 0) + 1 → PathChecked e os r' (d + 1)
+pub check-next : (e : List Bool) (os : List ℕ) (r d r' : ℕ) → PathChecked e os r d → leadsOn e r (getD os d 0) ≡ true → r' ≡ rank e (getD os d 0) + 1 → PathChecked e os r' (d + 1)
 unfolding recordAt
 check-next e os r d r' c q z =
     let y = leads-yes e r (getD os d 0) q in
     let s : d + 1 ≡ suc d = omega arith in
     record {
-      on = rw s (z ∙ sym (up (onesBefore e (getD os d 0))) ∙ sym (rank-is e (getD os d 0) (y .1)));
+      on = rw s (z ∙ sym (up (rank e (getD os d 0))) ∙ sym (rank-set e (getD os d 0) (y .1)));
       leads = rw s (c .leads, (y .0 ∙ c .on, y .1));
     }
 

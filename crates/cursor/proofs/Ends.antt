@@ -8,26 +8,21 @@ use lib.ListN.{length, take, getD}
 use lib.Seq.{take-all}
 use Rattle.loes.specs.Bytes.{bit, odd, tabulate}
 use Rattle.loes.specs.Keys.{Key, KeySet, members}
-use Rattle.loes.specs.Edges.{recordBits, ones, edges, onesBefore}
+use Rattle.loes.specs.Edges.{recordBits, ones, edges, rank}
 use Rattle.loes.specs.Prefixes.{inhabited, prefixCount, prefixesBefore, recordIndex}
 use Rattle.loes.specs.Cursor.{keyOf}
-use Rattle.loes.proofs.Lists.{length-bits}
+use Rattle.loes.proofs.Lists.{rank-empty, length-bits}
 use Rattle.loes.proofs.Bits.{odd-bit}
-use Rattle.loes.proofs.Tree.{hasPrefix, treeLevel, ones-tree, length-tree, edge-bit, edge-rank, count-one, length-members}
+use Rattle.loes.proofs.Tree.{hasPrefix, treeLevel, ones-tree, length-tree, edge-bit, step-before, edge-rank, count-one, length-members}
 use Rattle.loes.proofs.Navigation.{nav-bit}
-use Rattle.loes.proofs.Seven.{before-suc}
-use Rattle.query.proofs.Descent.{step-before}
 use Rattle.query.proofs.Paths.{recordAt, Leading, key-length, key-suc, split}
 use Rattle.cursor.specs.Moves.{turns, firstEdge}
 use Rattle.cursor.proofs.Moves.{path-prefix, record-some, first-set, first-half}
 
 -- ---- the last found prefix, one longer
-take-empty : (l : List Bool) (i : ℕ) → getD l i false ≡ false → ones (take (suc i) l) ≡ ones (take i l)
-unfolding onesBefore
-take-empty l i h = before-suc l i ∙ rw h (omega arith)
-
 pub last-step : (p : Key) (b : Bool) (m : ℕ) (s : KeySet) → length p < m → hasPrefix p m s ≡ true → hasPrefix (p ++ b ∷ []) m s ≡ true → (not b && hasPrefix (p ++ true ∷ []) m s) ≡ false
     → suc (prefixesBefore p m s) ≡ prefixCount (length p) m s → suc (prefixesBefore (p ++ b ∷ []) m s) ≡ prefixCount (suc (length p)) m s
+unfolding rank
 last-step p b m s l fp fb nt h = go b fb nt
   where
     size : length (recordBits (treeLevel (length p) m s)) ≡ suc (suc (2 * prefixesBefore p m s))
@@ -42,13 +37,13 @@ last-step p b m s l fp fb nt h = go b fb nt
         let w : 2 * prefixesBefore p m s + 1 ≡ suc (2 * prefixesBefore p m s) = omega arith in
         let c : getD (recordBits (treeLevel (length p) m s)) (suc (2 * prefixesBefore p m s)) false ≡ false = rw w at (edge-bit p true m s l fp) ∙ nt in
         let r : ones (take (suc (2 * prefixesBefore p m s)) (recordBits (treeLevel (length p) m s))) ≡ suc (prefixesBefore (p ++ false ∷ []) m s) = rw y at (edge-rank p false m s l fb) in
-        sym r ∙ sym (take-empty (recordBits (treeLevel (length p) m s)) (suc (2 * prefixesBefore p m s)) c)
+        sym r ∙ sym (rank-empty (recordBits (treeLevel (length p) m s)) (suc (2 * prefixesBefore p m s)) c)
         ∙ ap ones (take-all (suc (suc (2 * prefixesBefore p m s))) (recordBits (treeLevel (length p) m s)) (omega (arith, size))) ∙ ones-tree (length p) m s
 
 -- ---- the first found prefix, one longer
 none-first : (l : List Bool) → getD l 0 false ≡ false → ones (take 1 l) ≡ 0
-unfolding ones
-none-first l h = take-empty l 0 h
+unfolding ones rank
+none-first l h = rank-empty l 0 h
 
 pub first-step : (p : Key) (b : Bool) (m : ℕ) (s : KeySet) → length p < m → hasPrefix p m s ≡ true → (b && hasPrefix (p ++ false ∷ []) m s) ≡ false
     → prefixesBefore p m s ≡ 0 → prefixesBefore (p ++ b ∷ []) m s ≡ 0

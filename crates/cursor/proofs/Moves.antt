@@ -17,22 +17,9 @@ use Rattle.loes.proofs.Bits.{bit-odd}
 use Rattle.loes.proofs.Tests.{lt-yes, lt-no, eq-yes}
 use Rattle.loes.proofs.Tree.{hasPrefix, bit-le, prefix-whole, members-at}
 use Rattle.loes.proofs.Navigation.{nav-bit, nav-rank, record-nil}
-use Rattle.loes.proofs.Seven.{before-suc}
+use Rattle.loes.proofs.Lists.{rank-set, rank-empty}
 use Rattle.query.proofs.Paths.{recordAt, Leading, key-length, key-suc, split}
 use Rattle.cursor.specs.Moves.{turns, firstEdge, behind, movedOn}
-
--- ---- rank, one further
-pub rank-set : (e : List Bool) (i : ℕ) → getD e (i + 1) false ≡ true → rank e (i + 1) ≡ suc (rank e i)
-unfolding rank
-rank-set e i h =
-    let z : i + 1 ≡ suc i = omega arith in
-    rw z (before-suc e (suc i) ∙ rw (rw z at h) (omega arith))
-
-pub rank-empty : (e : List Bool) (i : ℕ) → getD e (i + 1) false ≡ false → rank e (i + 1) ≡ rank e i
-unfolding rank
-rank-empty e i h =
-    let z : i + 1 ≡ suc i = omega arith in
-    rw z (before-suc e (suc i) ∙ rw (rw z at h) (omega arith))
 
 -- some member goes on
 pub prefix-child : (p : Key) (m : ℕ) (s : KeySet) → length p < m → hasPrefix p m s ≡ true → (hasPrefix (p ++ false ∷ []) m s || hasPrefix (p ++ true ∷ []) m s) ≡ true
@@ -53,7 +40,7 @@ module _ (m : ℕ) (s : KeySet) (some : inhabited m s ≡ true) where
       let pl : length p < m = omega (arith, key-length g d) in
       let o : g d ≡ 2 * recordIndex p m s + bit (odd (g d)) = split g d (recordIndex p m s) (h .1 .0 ∙ sym (i .1)) in
       let f : hasPrefix (p ++ odd (g d) ∷ []) m s ≡ true = sym (nav-bit p (odd (g d)) m s pl (i .0)) ∙ ap (λ x. getD (edges m s) x false) (sym o) ∙ h .1 .1 in
-      (rw (key-suc g d) f, rw (key-suc g d) (sym (nav-rank p (odd (g d)) m s pl f) ∙ ap (rank (edges m s)) (sym o)))
+      (rw (key-suc g d) f, rw (key-suc g d) (sym (nav-rank p (odd (g d)) m s pl f) ∙ ap (λ x. rank (edges m s) (suc x)) (sym o)))
 
   -- the record that a path comes to has an edge
   pub record-some : (g : ℕ → ℕ) (d : ℕ) → d < m → Leading (edges m s) d g
@@ -79,24 +66,22 @@ pub first-half : (e : List Bool) (r : ℕ) → firstEdge e r / 2 ≡ r
 unfolding firstEdge
 first-half e r = omega (arith, bit-le (not (getD e (2 * r) false)))
 
--- from a set bit that does not turn, to the first set bit of the next record: one set bit more
-pub rank-over : (e : List Bool) (o : ℕ) → turns e o ≡ false → getD e (firstEdge e (o / 2 + 1)) false ≡ true
-    → rank e (firstEdge e (o / 2 + 1)) ≡ suc (rank e o)
+-- between a set bit that does not turn and the first set bit of the next record none is set
+rank-over : (e : List Bool) (o : ℕ) → turns e o ≡ false → rank e (firstEdge e (o / 2 + 1)) ≡ rank e (suc o)
 unfolding turns firstEdge
-rank-over e o t h = go (odd o) refl t (getD e (2 * (o / 2 + 1)) false) refl h
+rank-over e o t = first (getD e (2 * (o / 2 + 1)) false) refl ∙ own (odd o) refl t
   where
-    next : (i : ℕ) → (c : Bool) → getD e (2 * (o / 2 + 1)) false ≡ c → i + 1 ≡ 2 * (o / 2 + 1) → getD e (2 * (o / 2 + 1) + bit (not c)) false ≡ true
-        → rank e (2 * (o / 2 + 1) + bit (not c)) ≡ suc (rank e i)
-    next i true z y h =
-        let w : 2 * (o / 2 + 1) + 0 ≡ i + 1 = omega (arith, y) in
-        rw w (rank-set e i (rw (← y) at z))
-    next i false z y h =
-        rw (rank-set e (2 * (o / 2 + 1)) h) (ap suc (ap (rank e) (sym y) ∙ rank-empty e i (rw (← y) at z)))
+    first : (c : Bool) → getD e (2 * (o / 2 + 1)) false ≡ c → rank e (2 * (o / 2 + 1) + bit (not c)) ≡ rank e (2 * (o / 2 + 1))
+    first true z = ap (rank e) (omega arith)
+    first false z = let y : 2 * (o / 2 + 1) + 1 ≡ suc (2 * (o / 2 + 1)) = omega arith in rw y (rank-empty e (2 * (o / 2 + 1)) z)
 
-    go : (b : Bool) → odd o ≡ b → (not b && getD e (o + 1) false) ≡ false → (c : Bool) → getD e (2 * (o / 2 + 1)) false ≡ c
-        → getD e (2 * (o / 2 + 1) + bit (not c)) false ≡ true → rank e (2 * (o / 2 + 1) + bit (not c)) ≡ suc (rank e o)
-    go true b t c z h = next o c z (let q = ap bit b in omega (arith, bit-odd o, q)) h
-    go false b t c z h = next (o + 1) c z (let q = ap bit b in omega (arith, bit-odd o, q)) h ∙ ap suc (rank-empty e o t)
+    own : (b : Bool) → odd o ≡ b → (not b && getD e (o + 1) false) ≡ false → rank e (2 * (o / 2 + 1)) ≡ rank e (suc o)
+    own true b t = ap (rank e) (let q = ap bit b in omega (arith, bit-odd o, q))
+    own false b t =
+        let q = ap bit b in
+        let y : 2 * (o / 2 + 1) ≡ suc (suc o) = omega (arith, bit-odd o, q) in
+        let z : o + 1 ≡ suc o = omega arith in
+        rw y (rank-empty e (suc o) (rw z at t))
 
 -- what the path moved on has on each level
 pub moved-above : (e : List Bool) (t : ℕ) (f : ℕ → ℕ) (d : ℕ) → d < t → movedOn e t f d ≡ f d
@@ -126,7 +111,7 @@ module _ (m : ℕ) (s : KeySet) (some : inhabited m s ≡ true) (f : ℕ → ℕ
   g = movedOn (edges m s) t f
 
   on-level : (d : ℕ) → d < m → Leading (edges m s) d g → recordAt (edges m s) g d ≡ recordAt (edges m s) f d + bit (ltb t d)
-      → ((g d / 2 ≡ recordAt (edges m s) g d) × (getD (edges m s) (g d) false ≡ true)) × (rank (edges m s) (g d) ≡ rank (edges m s) (f d) + bit (ltb t (suc d)))
+      → ((g d / 2 ≡ recordAt (edges m s) g d) × (getD (edges m s) (g d) false ≡ true)) × (rank (edges m s) (suc (g d)) ≡ rank (edges m s) (suc (f d)) + bit (ltb t (suc d)))
   on-level d dm le at =
       let w = lead (suc d) dm .1 in
       elim (decLe (suc d) t) [
@@ -142,14 +127,15 @@ module _ (m : ℕ) (s : KeySet) (some : inhabited m s ≡ true) (f : ℕ → ℕ
               let a : recordAt (edges m s) g d ≡ recordAt (edges m s) f d = at ∙ rw (lt-no t d (omega arith)) (omega arith) in
               let v : f d % 2 ≡ 0 = rw z (y .0) in
               let u : getD (edges m s) (f d + 1) false ≡ true = rw z (y .1) in
-              ((rw q (omega (arith, w .0, a, v)), rw q u), rw (q, lt-yes t (suc d) (omega arith)) (rank-set (edges m s) (f d) u ∙ omega arith))
+              let n : f d + 1 ≡ suc (f d) = omega arith in
+              ((rw q (omega (arith, w .0, a, v)), rw q u), rw (q, lt-yes t (suc d) (omega arith), n) (rank-set (edges m s) (suc (f d)) (rw n at u) ∙ omega arith))
           | no k ↦
               let td : t < d = omega arith in
               let q : g d ≡ firstEdge (edges m s) (f d / 2 + 1) = moved-below (edges m s) t f d td in
               let a : recordAt (edges m s) g d ≡ f d / 2 + 1 = at ∙ rw (lt-yes t d td) (ap (λ x. x + 1) (sym (w .0))) in
               let u : getD (edges m s) (firstEdge (edges m s) (f d / 2 + 1)) false ≡ true = first-set (edges m s) (f d / 2 + 1) (rw a at (record-some m s some g d dm le)) in (
                 (rw q (first-half (edges m s) (f d / 2 + 1) ∙ sym a), rw q u),
-                rw (q, lt-yes t (suc d) (omega arith)) (rank-over (edges m s) (f d) (stuck d td dm) u ∙ omega arith),
+                rw (q, lt-yes t (suc d) (omega arith)) (rank-set (edges m s) (firstEdge (edges m s) (f d / 2 + 1)) u ∙ ap suc (rank-over (edges m s) (f d) (stuck d td dm)) ∙ omega arith),
               )
         ]
       ]

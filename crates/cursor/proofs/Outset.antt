@@ -28,7 +28,7 @@ use Rattle.cursor.proofs.Ends.{first-path}
 -- the records and offsets of the first path
 unfoldable firstRecord : List Bool → ℕ → ℕ
 firstRecord e zero = 0
-firstRecord e (suc d) = rank e (firstEdge e (firstRecord e d))
+firstRecord e (suc d) = rank e (suc (firstEdge e (firstRecord e d)))
 
 unfoldable firstAt : List Bool → ℕ → ℕ
 firstAt e d = firstEdge e (firstRecord e d)

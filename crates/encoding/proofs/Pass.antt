@@ -9,12 +9,12 @@ use lib.ListN.{length, drop}
 use lib.Seq.{drop-drop}
 use Rattle.loes.specs.Limits.{subBlockBits, blockEntry, subBlockEntry, subBlocks}
 use Rattle.loes.specs.Bytes.{Bytes, tabulate, started, bitsIn}
-use Rattle.loes.specs.Edges.{ones, onesBefore}
+use Rattle.loes.specs.Edges.{ones, rank}
 use Rattle.loes.specs.Encode.{blockOnes, subBlockOnes}
 use Rattle.loes.specs.Read.{blockAt, subBlockAt}
 use Rattle.loes.proofs.Tests.{both}
 use Rattle.bits.specs.Tables.{noneEmpty}
-use Rattle.bits.proofs.Counts.{before-bits, ones-more, ones-bits-le}
+use Rattle.bits.proofs.Counts.{rank-bits, ones-more, ones-bits-le}
 use Rattle.bits.proofs.Records.{full-more}
 use Rattle.encoding.specs.declared.Encoding.{Encoding}
 use Rattle.encoding.specs.Opened.{edgesAt, FieldsFit, Counted}
@@ -37,7 +37,7 @@ pub below-next : (P : ℕ → Type 0) (d : ℕ) → ((j : ℕ) → j < d → P j
 below-next P d f p j h = elim (decLe (suc j) d) [ yes l ↦ f j l | no l ↦ let z : d ≡ j = omega arith in rw z at p ]
 
 pub sub-block-first : (x : List Bool) (j : ℕ) → j % subBlocks ≡ 0 → subBlockOnes x j ≡ 0
-unfolding subBlockOnes onesBefore ones
+unfolding subBlockOnes rank ones
 sub-block-first x j h = rw h
 
 module _ (l : Bytes) (e : Encoding) where
@@ -87,7 +87,7 @@ module _ (l : Bytes) (e : Encoding) where
     count-at h =
         let y : Bytes = drop (e .edges) l in
         let z : 512 * j ≡ 8 * done e j = omega arith in
-        sub-block-start (bitsIn y (e .bits)) j ∙ before-bits y (e .bits) (512 * j) (omega arith) ∙ ap (λ m. ones (bitsIn y m)) z ∙ sym (g .count)
+        sub-block-start (bitsIn y (e .bits)) j ∙ rank-bits y (e .bits) (512 * j) (omega arith) ∙ ap (λ m. ones (bitsIn y m)) z ∙ sym (g .count)
 
     pub entries-of : subBlockBits * j < e .bits → Counted l e → EntriesAt l e j n
     entries-of h c =

@@ -5,7 +5,7 @@ ghost use mathlib.Core.Bool.{false};
 ghost use lib.ListN.{length, drop, getD};
 ghost use Rattle.loes.specs.Limits.{maxWidth, maxEdges, subBlockBits, subBlocks};
 ghost use Rattle.loes.specs.Bytes.{sameNumbers};
-ghost use Rattle.loes.specs.Edges.{onesBefore};
+ghost use Rattle.loes.specs.Edges.{rank};
 ghost use Rattle.loes.specs.Prefixes.{roots};
 ghost use Rattle.loes.specs.Entry.{edgesOf};
 ghost use Rattle.loes.specs.Encode.{levelEnd, encode};
@@ -241,7 +241,7 @@ const NEAR: usize = 256;
 // The set bits before an offset, by the index fields.
 fn indexed_ones(l: &[u8], t: &[u8], e: Encoding, o: EdgeOffset) -> usize
     requires { ⌜ FieldsFit (now l) e × Counted (now l) e × Tallies (now t) × (o .0 ≤ e .bits) ⌝ }
-    ensures { λ r. ⌜ r ≡ onesBefore (edgesAt (now (l .entry)) e) (o .0) ⌝ }
+    ensures { λ r. ⌜ r ≡ rank (edgesAt (now (l .entry)) e) (o .0) ⌝ }
 {
     let n = o.0;
     if n == 0 {
@@ -260,8 +260,8 @@ fn indexed_ones(l: &[u8], t: &[u8], e: Encoding, o: EdgeOffset) -> usize
 
 // The set bits before an offset, if n are set before another that is near before it: the other's byte and those behind it are counted, less the bits before the other in its byte.
 fn ones_near(l: &[u8], t: &[u8], e: Encoding, from: EdgeOffset, n: usize, o: EdgeOffset) -> usize
-    requires { ⌜ FieldsFit (now l) e × Tallies (now t) × (from .0 < o .0) × (o .0 ≤ from .0 + near) × (o .0 ≤ e .bits) × (n ≡ onesBefore (edgesAt (now l) e) (from .0)) ⌝ }
-    ensures { λ r. ⌜ r ≡ onesBefore (edgesAt (now (l .entry)) e) (o .0) ⌝ }
+    requires { ⌜ FieldsFit (now l) e × Tallies (now t) × (from .0 < o .0) × (o .0 ≤ from .0 + near) × (o .0 ≤ e .bits) × (n ≡ rank (edgesAt (now l) e) (from .0)) ⌝ }
+    ensures { λ r. ⌜ r ≡ rank (edgesAt (now (l .entry)) e) (o .0) ⌝ }
 {
     let a = from.0;
     let last = o.0 - 1;
@@ -275,8 +275,8 @@ fn ones_near(l: &[u8], t: &[u8], e: Encoding, from: EdgeOffset, n: usize, o: Edg
 
 // The set bits before an offset, if n are set before another that is not behind it.
 fn ones_on(l: &[u8], t: &[u8], e: Encoding, from: EdgeOffset, n: usize, o: EdgeOffset) -> usize
-    requires { ⌜ FieldsFit (now l) e × Counted (now l) e × Tallies (now t) × (from .0 ≤ o .0) × (o .0 ≤ e .bits) × (n ≡ onesBefore (edgesAt (now l) e) (from .0)) ⌝ }
-    ensures { λ r. ⌜ r ≡ onesBefore (edgesAt (now (l .entry)) e) (o .0) ⌝ }
+    requires { ⌜ FieldsFit (now l) e × Counted (now l) e × Tallies (now t) × (from .0 ≤ o .0) × (o .0 ≤ e .bits) × (n ≡ rank (edgesAt (now l) e) (from .0)) ⌝ }
+    ensures { λ r. ⌜ r ≡ rank (edgesAt (now (l .entry)) e) (o .0) ⌝ }
 {
     let far = o.0 - from.0;
     if far > NEAR {
@@ -550,7 +550,7 @@ pub fn check(l: &[u8], t: &[u8]) -> Checked
 // The set bits before an offset, 0 to b.
 pub fn ones_before(l: &[u8], t: &[u8], e: Encoding, o: EdgeOffset) -> usize
     requires { ⌜ Opens (now l) e × Tallies (now t) × (o .0 ≤ e .bits) ⌝ }
-    ensures { λ r. ⌜ r ≡ onesBefore (edgesOf (entryIn (now (l .entry)))) (o .0) ⌝ }
+    ensures { λ r. ⌜ r ≡ rank (edgesOf (entryIn (now (l .entry)))) (o .0) ⌝ }
 {
     indexed_ones(l, t, e, o)
 }
@@ -588,7 +588,7 @@ pub fn open(l: &[u8]) -> Told
     }
 }
 
-// The rank of an offset, or the refusal.
+// The rank of an offset: the set bits strictly before it; or the refusal.
 pub enum Ranked {
     Refused(u8),
     Rank(usize),
@@ -599,10 +599,10 @@ pub fn rank_in(l: &[u8], t: &[u8], e: Encoding, o: EdgeOffset) -> Ranked
     requires { ⌜ Opens (now l) e × Tallies (now t) ⌝ }
     ensures { λ r. ⌜ rankedOutcome r ≡ rankCall (now (l .entry)) (o .0) ⌝ }
 {
-    if e.bits <= o.0 {
+    if e.bits < o.0 {
         return Ranked::Refused(refusal::OUT_OF_RANGE);
     }
-    Ranked::Rank(ones_before(l, t, e, EdgeOffset(o.0 + 1)))
+    Ranked::Rank(ones_before(l, t, e, o))
 }
 
 pub fn rank(l: &[u8], o: EdgeOffset) -> Ranked

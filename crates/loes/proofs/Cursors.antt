@@ -10,7 +10,7 @@ use lib.Dec.{eqb}
 use Rattle.loes.specs.Limits.{maxWidth}
 use Rattle.loes.specs.Bytes.{odd, bit, packBits, sameNumbers, Bytes, front}
 use Rattle.loes.specs.Keys.{Key, anyOf, smaller}
-use Rattle.loes.specs.Edges.{edgeOffsets, rank}
+use Rattle.loes.specs.Edges.{edgeOffsets}
 use Rattle.loes.specs.Entry.{Entry, keyBytes, keysOf, count, edgesOf}
 use Rattle.loes.specs.Refusals.{test, firstOf}
 use Rattle.loes.specs.Model.{wroteKey}
@@ -27,12 +27,12 @@ cursorAt e i = record { state = at; offsets = padded (pathOf e (getD (keysOf e) 
 pub length-offsets : (e : List Bool) (r : ℕ) (k : Key) → length (edgeOffsets e r k) ≡ length k
 unfolding edgeOffsets
 length-offsets e r [] = refl
-length-offsets e r (b ∷ k) = ap suc (length-offsets e (rank e (2 * r + bit b)) k)
+length-offsets e r (b ∷ k) = ap suc (length-offsets e _ k)
 
 pub odd-offsets : (e : List Bool) (r : ℕ) (k : Key) → map odd (edgeOffsets e r k) ≡ k
 unfolding edgeOffsets
 odd-offsets e r [] = refl
-odd-offsets e r (b ∷ k) = ap₂ _∷_ (odd-bit b (2 * r + bit b) (omega (arith, bit-le b))) (odd-offsets e (rank e (2 * r + bit b)) k)
+odd-offsets e r (b ∷ k) = ap₂ _∷_ (odd-bit b (2 * r + bit b) (omega (arith, bit-le b))) (odd-offsets e _ k)
 
 zeros-zero : (n : ℕ) → allZero (replicate n 0) ≡ true
 unfolding allZero anyOf

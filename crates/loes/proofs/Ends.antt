@@ -10,10 +10,10 @@ use lib.Seq.{take-at, take-add, drop-drop, length-take-le}
 use lib.Dec.{ltb}
 use Rattle.loes.specs.Bytes.{bit}
 use Rattle.loes.specs.Keys.{Key, KeySet, members}
-use Rattle.loes.specs.Edges.{Record, recordBits, ones, onesBefore, edges, edgesBefore, present}
+use Rattle.loes.specs.Edges.{Record, recordBits, ones, rank, edges, edgesBefore, present}
 use Rattle.loes.specs.Prefixes.{inhabited, prefixCount, recordsBefore, roots, ends}
 use Rattle.loes.specs.Entry.{ofWidth}
-use Rattle.loes.proofs.Lists.{ones-append, bits-append}
+use Rattle.loes.proofs.Lists.{ones-append, bits-append, rank-more}
 use Rattle.loes.proofs.Tests.{lt-yes, eq-yes}
 use Rattle.loes.proofs.Tree.{treeLevel, tree-empty, level-tree, length-tree, count-one, length-members}
 use Rattle.loes.proofs.Navigation.{length-edgesBefore, ones-edgesBefore, edges-from, edges-empty, no-edges}
@@ -30,7 +30,7 @@ front d m s h =
     rw (r .1) (take-at (edgesBefore d m s) (r .0) (length (edgesBefore d m s)) refl)
 
 pub ends-set : (d m : ℕ) (s : KeySet) → d ≤ m → length (edgesBefore d m s) ≡ ends (prefixCount 0 m s) (edges m s) d
-unfolding ends onesBefore edgesBefore
+unfolding ends rank edgesBefore
 ends-set zero m s h = refl
 ends-set (suc d) m s h =
     let i : length (edgesBefore d m s) ≡ ends (prefixCount 0 m s) (edges m s) d = ends-set d m s (omega arith) in
@@ -90,27 +90,21 @@ no-empty-cut r e h n =
     ap recordsIn (sym (take-append-drop (2 * r) e)) ∙ records-append r (take (2 * r) e) (drop (2 * r) e) (length-take-le (2 * r) e h) in
     no-empty-split (recordsIn (take (2 * r) e)) (recordsIn (drop (2 * r) e)) (rw a at n)
 
-ones-grow : (e : List Bool) (i j : ℕ) → i ≤ j → ones (take i e) ≤ ones (take j e)
-ones-grow e i j h =
-    let z : i + (j - i) ≡ j = omega arith in
-    let a : ones (take j e) ≡ ones (take i e) + ones (take (j - i) (drop i e)) = ap (λ n. ones (take n e)) (sym z) ∙ ap ones (take-add i (j - i) e) ∙ ones-append (take i e) (take (j - i) (drop i e)) in
-    omega (arith, a)
-
 pub ends-grow : (c : ℕ) (e : List Bool) (d : ℕ) → ends c e d ≤ ends c e (suc d)
-unfolding ends onesBefore
+unfolding ends
 ends-grow c e zero = omega arith
-ends-grow c e (suc d) = omega (arith, ones-grow e (ends c e d) (ends c e (suc d)) (ends-grow c e d))
+ends-grow c e (suc d) = omega (arith, rank-more e (ends c e d) (ends c e (suc d)) (ends-grow c e d))
 
 ends-le : (c : ℕ) (e : List Bool) (d m : ℕ) → d ≤ m → ends c e d ≤ ends c e m
 ends-le c e d m h = le-ind (λ (j : ℕ). ends c e d ≤ ends c e j) (omega arith) (λ j l i. omega (arith, i, ends-grow c e j)) m h
 
 ends-even : (c : ℕ) (e : List Bool) (d : ℕ) → ends c e d ≡ 2 * (ends c e d / 2)
-unfolding ends onesBefore
+unfolding ends rank
 ends-even c e zero = omega arith
 ends-even c e (suc d) = omega arith
 
 ends-next : (c : ℕ) (e : List Bool) (d : ℕ) → ends c e (suc d) ≡ 2 * (c + ones (take (ends c e d) e))
-unfolding ends onesBefore
+unfolding ends rank
 ends-next c e d = refl
 
 well-from : (j d m : ℕ) (e : List Bool) → d + j ≡ m → ends 1 e m ≡ length e → NoEmpty (recordsIn (drop (ends 1 e d) e))
@@ -135,7 +129,7 @@ well-from (suc j) d m e h q n =
     (l, c .0, rw (o2, dd) (well-from j (suc d) m e (omega arith) q (rw dd at (c .1))))
 
 pub well-ends : (m : ℕ) (e : List Bool) → NoEmpty (recordsIn e) → ends 1 e m ≡ length e → WellFormed m 1 e
-unfolding ends onesBefore ones
+unfolding ends rank ones
 well-ends m e n q = well-from m 0 m e (omega arith) q n
 
 -- ---- The set got by following edges has these edges

@@ -16,9 +16,9 @@ use Rattle.loes.specs.Entry.{Entry, SameEntry, withSet, edgeCount, wrong
 use Rattle.loes.specs.Encode.{encode}
 use Rattle.loes.specs.Refusals.{Tests, test, firstOf}
 use Rattle.loes.specs.Read.{read}
-use Rattle.loes.specs.Model.{packTests, Answer, refused, wrote, wroteKey, indexIs, rankIs, isPresent, isAbsent, isNone, isPosted, tells, OutcomeOf, Outcome, StepOf, Step, refusal, refusedOr, tested, fronts, anyShort, writes, writesKey, answers, keyIn, batchKeys, batchEntry, joinTests, unionEntry, differenceEntry, pack, union, difference, contains, indexOf, keyAt, rankAt, lowerBound}
-use Rattle.loes.specs.Calls.{afterReading, reading, packCall, unionCall, differenceCall, containsCall, indexOfCall, keyAtCall, rankCall, lowerBoundCall}
-use Rattle.loes.specs.History.{Call, doPack, doUnion, doDifference, askContains, askIndexOf, askLowerBound, askKeyAt, askRank, atPlace, modelCall, addedBy, outcomeOf, modelFrom, modelSays, storeCall, cut, writtenWith, writtenBy, storeFrom, storeSays, modelAfter, storeAfter}
+use Rattle.loes.specs.Model.{packTests, Answer, refused, wrote, wroteKey, indexIs, rankIs, rangeIs, isPresent, isAbsent, isNone, isPosted, tells, OutcomeOf, Outcome, StepOf, Step, refusal, refusedOr, tested, fronts, anyShort, writes, writesKey, answers, keyIn, batchKeys, batchEntry, joinTests, unionEntry, differenceEntry, pack, union, difference, contains, indexOf, keyAt, rankAt, lowerBound, prefix}
+use Rattle.loes.specs.Calls.{afterReading, reading, packCall, unionCall, differenceCall, containsCall, indexOfCall, keyAtCall, rankCall, lowerBoundCall, prefixCall}
+use Rattle.loes.specs.History.{Call, doPack, doUnion, doDifference, askContains, askIndexOf, askLowerBound, askKeyAt, askRank, askPrefix, atPlace, modelCall, addedBy, outcomeOf, modelFrom, modelSays, storeCall, cut, writtenWith, writtenBy, storeFrom, storeSays, modelAfter, storeAfter}
 use Rattle.loes.specs.Demands.{Writes, noEntry, HistoriesAgree}
 use Rattle.loes.proofs.Tests.{lt-no, no-lt, yes-eq, neither, not-false, both, none-append, none-test, none-first}
 use Rattle.loes.proofs.Lists.{getD-map-in}
@@ -81,6 +81,8 @@ call-agree t (askKeyAt i n out) h =
     one-agree t i (λ a. keyAtCall a n out) (λ e. keyAt e n out) h (λ e g. unfold keyAtCall in reading-encode e (out ∷ []) _ g)
 call-agree t (askRank i o) h =
     one-agree t i (λ a. rankCall a o) (λ e. rankAt e o) h (λ e g. unfold rankCall in reading-encode e [] _ g)
+call-agree t (askPrefix i p x) h =
+    one-agree t i (λ a. prefixCall a p x) (λ e. prefix e p x) h (λ e g. unfold prefixCall in reading-encode e [] _ g)
 
 -- ---- What a step adds is valid, and its encodings are the fronts of the buffers
 abbrev pub Kept : Step → Type 0
@@ -137,6 +139,7 @@ made-none (wrote (n ∷ ns)) = refl
 made-none (wroteKey n) = refl
 made-none (indexIs n) = refl
 made-none (rankIs n) = refl
+made-none (rangeIs i n) = refl
 made-none isPresent = refl
 made-none isAbsent = refl
 made-none isNone = refl
@@ -233,6 +236,7 @@ call-kept t (askIndexOf i x) h = atPlace-kept t i _ h (λ e g. unfold indexOf in
 call-kept t (askLowerBound i x) h = atPlace-kept t i _ h (λ e g. unfold lowerBound in answers-kept _ _)
 call-kept t (askKeyAt i n out) h = atPlace-kept t i _ h (λ e g. unfold keyAt in key-kept _ _ _ out)
 call-kept t (askRank i o) h = atPlace-kept t i _ h (λ e g. unfold rankAt in answers-kept _ _)
+call-kept t (askPrefix i p x) h = atPlace-kept t i _ h (λ e g. unfold prefix in answers-kept _ _)
 
 -- ---- What is accepted is written
 pub tested-only : {L : Type 0} (ts : Tests) (bufs : L) (done : StepOf L) → ((k : ℕ) → tested ts bufs done .outcome .answer ≡ refused k → ⊥) → firstOf ts ≡ none

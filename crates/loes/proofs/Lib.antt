@@ -16,6 +16,7 @@ pub mod Members
 pub mod Writes
 pub mod Histories
 pub mod Order
+pub mod Ranges
 pub mod Cursors
 pub mod Kept
 pub mod Walk

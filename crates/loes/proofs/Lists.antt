@@ -1,13 +1,15 @@
--- filter, any, map and ones over ++ and over one another; a part that goes to the end.
-use mathlib.Core.Path.{_≡_, refl, sym}
+-- filter, any, map and ones over ++ and over one another; set bits and rank; a part that goes to the end.
+use mathlib.Core.Path.{_≡_, refl, sym, _∙_}
 use Prim.Native.Nat.{ℕ, zero, suc, _+_, _-_, _*_, _≤_, _<_}
 use mathlib.Core.Bool.{Bool, true, false, _||_, cond, or-assoc}
 use mathlib.Core.List.{List, [], _∷_, _++_, map}
 use native.Mathlib.Omega.{arith}
+use native.Mathlib.Decide.{le-ind}
 use lib.ListN.{length, take, drop, getD, length-drop}
 use lib.Seq.{take-all}
+use Rattle.loes.specs.Bytes.{bit}
 use Rattle.loes.specs.Keys.{those, anyOf}
-use Rattle.loes.specs.Edges.{Record, recordBits, ones}
+use Rattle.loes.specs.Edges.{Record, recordBits, ones, rank}
 
 pub those-append : {A : Type 0} (f : A → Bool) (l r : List A) → those f (l ++ r) ≡ those f l ++ those f r
 unfolding those
@@ -43,6 +45,37 @@ unfolding ones
 ones-append [] r = omega arith
 ones-append (true ∷ l) r = rw (ones-append l r) (omega arith)
 ones-append (false ∷ l) r = ones-append l r
+
+pub ones-le : (l : List Bool) → ones l ≤ length l
+unfolding ones
+ones-le [] = omega arith
+ones-le (true ∷ l) = omega (arith, ones-le l)
+ones-le (false ∷ l) = omega (arith, ones-le l)
+
+pub rank-le : (l : List Bool) (n : ℕ) → (rank l n ≤ n) × (rank l n ≤ length l)
+unfolding rank ones
+rank-le l zero = (omega arith, omega arith)
+rank-le [] (suc n) = (omega arith, omega arith)
+rank-le (true ∷ l) (suc n) = let r = rank-le l n in (omega (arith, r .0), omega (arith, r .1))
+rank-le (false ∷ l) (suc n) = let r = rank-le l n in (omega (arith, r .0), omega (arith, r .1))
+
+pub rank-suc : (l : List Bool) (n : ℕ) → rank l (suc n) ≡ rank l n + bit (getD l n false)
+unfolding rank ones
+rank-suc [] zero = refl
+rank-suc [] (suc n) = refl
+rank-suc (true ∷ l) zero = refl
+rank-suc (false ∷ l) zero = refl
+rank-suc (true ∷ l) (suc n) = omega (arith, rank-suc l n)
+rank-suc (false ∷ l) (suc n) = rank-suc l n
+
+pub rank-set : (l : List Bool) (n : ℕ) → getD l n false ≡ true → rank l (suc n) ≡ suc (rank l n)
+rank-set l n h = rank-suc l n ∙ rw h (omega arith)
+
+pub rank-empty : (l : List Bool) (n : ℕ) → getD l n false ≡ false → rank l (suc n) ≡ rank l n
+rank-empty l n h = rank-suc l n ∙ rw h (omega arith)
+
+pub rank-more : (l : List Bool) (a b : ℕ) → a ≤ b → rank l a ≤ rank l b
+rank-more l a b h = le-ind (λ (n : ℕ). rank l a ≤ rank l n) (omega arith) (λ n g i. omega (arith, i, rank-suc l n)) b h
 
 pub bits-append : (l r : List Record) → recordBits (l ++ r) ≡ recordBits l ++ recordBits r
 unfolding recordBits

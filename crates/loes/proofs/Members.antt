@@ -22,6 +22,9 @@ pub record At (m : ℕ) (s : KeySet) (i : ℕ) : Type 0 where
   pub inside : s key ≡ true
   pub order : prefixesBefore key m s ≡ i
 
+pub members-both : (m : ℕ) (s : KeySet) → length (members (suc m) s) ≡ length (members m (half false s)) + length (members m (half true s))
+members-both m s = rw (members-step m s) (simp (length-append, length-map))
+
 pub at-place : (m : ℕ) (s : KeySet) (i : ℕ) → i < length (members m s) → At m s i
 unfolding prefixesBefore half
 at-place zero s i h = go (s []) refl i (unfold members allKeys those in h)
@@ -31,8 +34,7 @@ at-place zero s i h = go (s []) refl i (unfold members allKeys those in h)
     go true e zero h = record { key = []; here = unfold members allKeys those in rw e; size = refl; inside = e; order = refl }
     go true e (suc i) h = absurd (omega arith)
 at-place (suc m) s i h =
-    let n : length (members (suc m) s) ≡ length (members m (half false s)) + length (members m (half true s)) =
-    rw (members-step m s) (simp (length-append, length-map)) in
+    let n : length (members (suc m) s) ≡ length (members m (half false s)) + length (members m (half true s)) = members-both m s in
     elim (decLe (suc i) (length (members m (half false s)))) [
       | yes l ↦ low (at-place m (half false s) i l) l
       | no l ↦

@@ -6,10 +6,10 @@ use mathlib.Core.List.{List, [], _∷_, _++_, append-assoc, append-nil}
 use native.Mathlib.Omega.{arith}
 use native.Mathlib.Decide.{le-ind}
 use lib.ListN.{length, getD, length-append, List·getD-append}
-use lib.Seq.{take-append-le, take-append-add, getD-append-add}
+use lib.Seq.{take-at, take-append-le, take-append-add, getD-append-add}
 use Rattle.loes.specs.Bytes.{bit}
 use Rattle.loes.specs.Keys.{Key, KeySet, members, smaller}
-use Rattle.loes.specs.Edges.{level, recordBits, ones, edges, edgesBefore, rank, onesBefore, edgeOffsets, allSet, present, lastOf, edgeIndex}
+use Rattle.loes.specs.Edges.{level, recordBits, ones, edges, edgesBefore, rank, edgeOffsets, allSet, present, lastOf, edgeIndex}
 use Rattle.loes.specs.Prefixes.{inhabited, prefixCount, prefixesBefore, recordsBefore, recordIndex}
 use Rattle.loes.proofs.Lists.{ones-append, length-bits}
 use Rattle.loes.proofs.Tree.{hasPrefix, treeLevel, level-tree, ones-tree, length-tree, before-lt, bit-le, edge-bit, edge-rank, length-snoc, prefix-shorter, prefix-inhabited, count-one, prefix-whole, prefix-of, false-if, prefix-start, tree-empty, before-smaller}
@@ -42,6 +42,14 @@ edges-at d m s h =
     let e : (rest : List Bool) × (edgesBefore m m s ≡ edgesBefore (suc d) m s ++ rest) = edges-from (suc d) m m s h in
     (e .0, e .1 ∙ append-assoc (edgesBefore d m s) (recordBits (level d m s)) (e .0) ∙ rw (level-tree d m s h))
 
+-- the set bits before a level's first record: the records up to and with the level, but for the first of all
+pub rank-level : (d m : ℕ) (s : KeySet) → d ≤ m → inhabited m s ≡ true → rank (edges m s) (2 * recordsBefore d m s) + 1 ≡ recordsBefore (suc d) m s
+unfolding rank edges
+rank-level d m s h i =
+    let e = edges-from d m m s h in
+    rw (e .1, take-at (edgesBefore d m s) (e .0) (2 * recordsBefore d m s) (length-edgesBefore d m s h))
+    (omega (arith, ones-edgesBefore d m s h, count-one m s i))
+
 module _ (p : Key) (b : Bool) (m : ℕ) (s : KeySet) (l : length p < m) where
   inside : hasPrefix p m s ≡ true → 2 * prefixesBefore p m s + bit b < length (recordBits (treeLevel (length p) m s))
   inside h = omega (arith, length-bits (treeLevel (length p) m s), length-tree (length p) m s l, before-lt p m s h, bit-le b)
@@ -56,8 +64,8 @@ module _ (p : Key) (b : Bool) (m : ℕ) (s : KeySet) (l : length p < m) where
       rw (edges-at (length p) m s l .1, at-level, getD-append-add, List·getD-append) (edge-bit p b m s l h)
 
   -- (b)
-  pub nav-rank : hasPrefix (p ++ b ∷ []) m s ≡ true → rank (edges m s) (2 * recordIndex p m s + bit b) ≡ recordIndex (p ++ b ∷ []) m s
-  unfolding rank onesBefore
+  pub nav-rank : hasPrefix (p ++ b ∷ []) m s ≡ true → rank (edges m s) (suc (2 * recordIndex p m s + bit b)) ≡ recordIndex (p ++ b ∷ []) m s
+  unfolding rank
   nav-rank h =
       let i : suc (2 * prefixesBefore p m s + bit b) ≤ length (recordBits (treeLevel (length p) m s)) = inside (prefix-shorter p b m s h) in
       let at : suc (2 * recordIndex p m s + bit b) ≡ length (edgesBefore (length p) m s) + suc (2 * prefixesBefore p m s + bit b) = omega (arith, at-level) in
@@ -79,7 +87,7 @@ follow p (b ∷ k) m s l f =
   where
     go : length p < m → (c : Bool) → hasPrefix (p ++ b ∷ []) m s ≡ c → length (p ++ b ∷ [] ++ k) ≡ m
         → (hasPrefix (p ++ b ∷ []) m s ≡ true → allSet (edges m s) (edgeOffsets (edges m s) (recordIndex (p ++ b ∷ []) m s) k) ≡ s (p ++ b ∷ [] ++ k))
-        → (c && allSet (edges m s) (edgeOffsets (edges m s) (rank (edges m s) (2 * recordIndex p m s + bit b)) k)) ≡ s (p ++ b ∷ [] ++ k)
+        → (c && allSet (edges m s) (edgeOffsets (edges m s) (rank (edges m s) (suc (2 * recordIndex p m s + bit b))) k)) ≡ s (p ++ b ∷ [] ++ k)
     go short true e l2 ih = rw (nav-rank p b m s short e) (ih e)
     go short false e l2 ih = sym (false-if (prefix-of (p ++ b ∷ []) k m s l2) e)
 
@@ -110,9 +118,9 @@ present-is k m s l pos = go (inhabited m s) refl
     go true h = rw (record-nil m s) at (follow [] k m s l h)
     go false h = rw (edges-empty m s h, no-edges k (omega arith)) (sym (false-if (prefix-of [] k m s l) h))
 
--- the rank of the last edge
+-- the rank behind the last edge
 pub last-rank : (p : Key) (b : Bool) (k : Key) (m : ℕ) (s : KeySet) → length (p ++ b ∷ k) ≡ m → hasPrefix (p ++ b ∷ k) m s ≡ true
-    → rank (edges m s) (lastOf (edgeOffsets (edges m s) (recordIndex p m s) (b ∷ k))) ≡ recordIndex (p ++ b ∷ k) m s
+    → rank (edges m s) (suc (lastOf (edgeOffsets (edges m s) (recordIndex p m s) (b ∷ k)))) ≡ recordIndex (p ++ b ∷ k) m s
 unfolding edgeOffsets lastOf
 last-rank p b [] m s l f = nav-rank p b m s (omega (arith, simp length-append at l)) f
 last-rank p b (c ∷ k) m s l f =
@@ -126,7 +134,7 @@ unfolding edgeIndex recordIndex
 index-is [] m s l e = absurd (omega arith)
 index-is (b ∷ k) m s l e =
     let f : hasPrefix (b ∷ k) (suc m) s ≡ true = prefix-whole (b ∷ k) (suc m) s l ∙ e in
-    let r : rank (edges (suc m) s) (lastOf (edgeOffsets (edges (suc m) s) 0 (b ∷ k))) ≡ recordIndex (b ∷ k) (suc m) s =
+    let r : rank (edges (suc m) s) (suc (lastOf (edgeOffsets (edges (suc m) s) 0 (b ∷ k)))) ≡ recordIndex (b ∷ k) (suc m) s =
     rw (record-nil (suc m) s) at (last-rank [] b k (suc m) s l f) in
     let n : suc m - 1 ≡ m = omega arith in
     rw (r, n, before-smaller (b ∷ k) (suc m) s l)

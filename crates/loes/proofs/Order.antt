@@ -35,18 +35,18 @@ lt-add a m n =
     ]
 
 -- nothing is below the empty key
-less-nil : (j : Key) → less j [] ≡ false
+pub less-nil : (j : Key) → less j [] ≡ false
 unfolding less
 less-nil [] = refl
 less-nil (b ∷ j) = refl
 
 -- the members below a key, by its first bit: if it is 0, only some that begin with 0
-smaller-false : (k : Key) (m : ℕ) (s : KeySet) → smaller (false ∷ k) (members (suc m) s) ≡ smaller k (members m (half false s))
+pub smaller-false : (k : Key) (m : ℕ) (s : KeySet) → smaller (false ∷ k) (members (suc m) s) ≡ smaller k (members m (half false s))
 unfolding smaller less
 smaller-false k m s = rw (members-step, those-append) (simp (those-map, those-none, append-nil, length-map))
 
 -- if it is 1, all that begin with 0 and some that begin with 1
-smaller-true : (k : Key) (m : ℕ) (s : KeySet)
+pub smaller-true : (k : Key) (m : ℕ) (s : KeySet)
     → smaller (true ∷ k) (members (suc m) s) ≡ length (members m (half false s)) + smaller k (members m (half true s))
 unfolding smaller less
 smaller-true k m s = rw (members-step, those-append) (simp (those-map, those-all, length-append, length-map))
@@ -89,7 +89,7 @@ smaller-least e k i l h =
     ]
 
 -- document 01, seek: the index of the smallest member not below the key, which is the one that has only members below the key before it
-pub bound-index : (e : Entry) (x : Bytes) (i : ℕ) → keyTest e x ≡ none → i < count e → less (getD (keysOf e) i []) (keyIn (e .width) x) ≡ false
+pub bound-index : (e : Entry) (x : Bytes) (i : ℕ) → keyTest (e .width) x ≡ none → i < count e → less (getD (keysOf e) i []) (keyIn (e .width) x) ≡ false
     → ((j : ℕ) → j < i → less (getD (keysOf e) j []) (keyIn (e .width) x) ≡ true) → lowerBound e x .outcome .answer ≡ indexIs i
 unfolding lowerBound answers tested refusedOr firstOf
 bound-index e x i t l f h =
@@ -100,7 +100,7 @@ bound-index e x i t l f h =
     rw (t, n, eq-no i (count e) (λ z. omega arith))
 
 -- or none, if all members are below the key
-pub bound-none : (e : Entry) (x : Bytes) → keyTest e x ≡ none → ((j : ℕ) → j < count e → less (getD (keysOf e) j []) (keyIn (e .width) x) ≡ true)
+pub bound-none : (e : Entry) (x : Bytes) → keyTest (e .width) x ≡ none → ((j : ℕ) → j < count e → less (getD (keysOf e) j []) (keyIn (e .width) x) ≡ true)
     → lowerBound e x .outcome .answer ≡ isNone
 unfolding lowerBound answers tested refusedOr firstOf count smaller
 bound-none e x t h =

@@ -2,7 +2,7 @@
 use mathlib.Core.Path.{_≡_, refl, sym, ap, ap₂, _∙_, subst}
 use mathlib.Core.Logic.{_↔_}
 use Prim.Native.Nat.{ℕ, zero, suc, _+_, _-_, _*_, _/_, _%_, _≤_, _<_}
-use mathlib.Core.Bool.{Bool, true, false, not}
+use mathlib.Core.Bool.{Bool, not}
 use mathlib.Core.List.{List, [], _∷_, _++_, append-assoc, flatten}
 use mathlib.Core.Option.{none}
 use native.Mathlib.Omega.{arith}
@@ -11,42 +11,21 @@ use lib.ListN.{length, take, drop, getD, length-append, length-drop, take-append
 use lib.Seq.{take-at, drop-drop, drop-cons, length-take-le}
 use lib.Dec.{eqb, ltb}
 use Rattle.loes.specs.Limits.{blockBits, subBlockBits, headBytes, widthBytes, countBytes, levelEntry, blockEntry, subBlockEntry}
-use Rattle.loes.specs.Bytes.{Bytes, bit, started, bigEndian, numberAt}
+use Rattle.loes.specs.Bytes.{Bytes, started, bigEndian, numberAt}
 use Rattle.loes.specs.Keys.{members}
-use Rattle.loes.specs.Edges.{level, recordBits, edgesBefore, edges, ones, onesBefore}
+use Rattle.loes.specs.Edges.{level, recordBits, edgesBefore, edges}
 use Rattle.loes.specs.Entry.{Entry, keysOf, count, edgesOf, edgeCount, Valid}
 use Rattle.loes.specs.Encode.{field, blockOnes, subBlockOnes, levelEnd, widthBody, countBody, levelBody, edgeBody, blockBody, subBlockBody, encode}
 use Rattle.loes.specs.Refusals.{firstOf}
 use Rattle.loes.specs.Read.{levelBytes, edgeBytes, blockBytes, subBlockBytes, bodyAt, start2, start3, start4, start5, start6, endOf, widthIn, levelAt, blockAt, subBlockAt, edgeCountIn, entryAlong, entryIn, fieldTests}
 use Rattle.loes.proofs.Tests.{yes-eq, not-false, none-test}
 use Rattle.loes.proofs.Numbers.{AllBytes, number-at, numbers-at, number-is, numbers-are}
+use Rattle.loes.proofs.Lists.{ones-le, rank-le}
 use Rattle.loes.proofs.Navigation.{edges-from}
 use Rattle.loes.proofs.Corollaries.{ones-last}
 use Rattle.loes.proofs.Reading.{body-at, FieldsLaid, laid, length-edges, bits-read, field-fits, Passed, valid-passed}
 
 -- ---- The numbers of an entry fit their bytes
-pub ones-le : (l : List Bool) → ones l ≤ length l
-unfolding ones
-ones-le [] = omega arith
-ones-le (true ∷ l) = omega (arith, ones-le l)
-ones-le (false ∷ l) = omega (arith, ones-le l)
-
-pub before-le : (l : List Bool) (n : ℕ) → (onesBefore l n ≤ n) × (onesBefore l n ≤ length l)
-unfolding onesBefore ones
-before-le l zero = (omega arith, omega arith)
-before-le [] (suc n) = (omega arith, omega arith)
-before-le (true ∷ l) (suc n) = let r = before-le l n in (omega (arith, r .0), omega (arith, r .1))
-before-le (false ∷ l) (suc n) = let r = before-le l n in (omega (arith, r .0), omega (arith, r .1))
-
-pub before-suc : (l : List Bool) (n : ℕ) → onesBefore l (suc n) ≡ onesBefore l n + bit (getD l n false)
-unfolding onesBefore ones
-before-suc [] zero = refl
-before-suc [] (suc n) = refl
-before-suc (true ∷ l) zero = refl
-before-suc (false ∷ l) zero = refl
-before-suc (true ∷ l) (suc n) = omega (arith, before-suc l n)
-before-suc (false ∷ l) (suc n) = before-suc l n
-
 pub count-le : (e : Entry) → 0 < e .width → count e ≤ edgeCount e
 unfolding count keysOf edgeCount edgesOf edges
 count-le e p = go (e .width) p
@@ -59,7 +38,7 @@ count-le e p = go (e .width) p
 
 subBlock-small : (l : List Bool) (j : ℕ) → subBlockOnes l j < 65536
 unfolding subBlockOnes
-subBlock-small l j = omega (arith, before-le (drop (65536 * (j / 128)) l) (512 * (j % 128)) .0)
+subBlock-small l j = omega (arith, rank-le (drop (65536 * (j / 128)) l) (512 * (j % 128)) .0)
 
 pub level-le : (e : Entry) (d : ℕ) → d < e .width → levelEnd e d ≤ edgeCount e
 unfolding levelEnd edgeCount edgesOf edges
@@ -93,7 +72,7 @@ encode-agrees e v =
       edges = rw (body-at 4 (edgeBody e) l (start4 m) (p .field4)) (take-at (edgeBody e) _ (edgeBytes b) (length-edges e));
       blocks = λ j h.
           numbers-at blockEntry (blockOnes (edgesOf e)) (started blockBits b) j l _ (bodyAt (start5 m b)) h
-          (unfold blockOnes edgeCount in omega (arith, before-le (edgesOf e) (65536 * j) .1, v .few)) (body-at 5 (blockBody e) l (start5 m b) (p .field5));
+          (unfold blockOnes edgeCount in omega (arith, rank-le (edgesOf e) (65536 * j) .1, v .few)) (body-at 5 (blockBody e) l (start5 m b) (p .field5));
       subBlocks = λ j h.
           numbers-at subBlockEntry (subBlockOnes (edgesOf e)) (started subBlockBits b) j l _ (bodyAt (start6 m b)) h
           (omega (arith, subBlock-small (edgesOf e) j)) (body-at 6 (subBlockBody e) l (start6 m b) (p .field6));

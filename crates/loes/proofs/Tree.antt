@@ -1,17 +1,17 @@
 -- Levels by recursion on the key's bits, and that they are the levels of the specification.
 use mathlib.Core.Path.{_≡_, refl, sym, ap, ap₂, _∙_}
 use Prim.Native.Nat.{ℕ, zero, suc, _+_, _*_, _≤_, _<_}
-use mathlib.Core.Bool.{Bool, true, false, _||_, cond, or-false, or-true, false≢true}
+use mathlib.Core.Bool.{Bool, true, false, _&&_, _||_, cond, or-false, or-true, false≢true}
 use mathlib.Core.List.{List, [], _∷_, _++_, map, map-append, map-map, append-nil}
 use native.Mathlib.Omega.{arith}
 use lib.ListN.{length, take, getD, length-append, length-map, List·getD-append}
 use lib.Seq.{take-append-le, take-append-add, getD-append-add}
 use Rattle.loes.specs.Bytes.{bit}
 use Rattle.loes.specs.Keys.{Key, KeySet, allKeys, those, anyOf, members, isPrefix, less, smaller}
-use Rattle.loes.specs.Edges.{recordOf, found, level, Record, recordBits, ones}
+use Rattle.loes.specs.Edges.{recordOf, found, level, Record, recordBits, ones, rank}
 use Rattle.loes.specs.Prefixes.{half, inhabited, prefixCount, prefixesBefore}
 use Rattle.loes.proofs.Tests.{neither}
-use Rattle.loes.proofs.Lists.{those-append, those-map, anyOf-append, anyOf-map, anyOf-none, ones-append, bits-append, length-bits, those-none, those-all, getD-map-in}
+use Rattle.loes.proofs.Lists.{those-append, those-map, anyOf-append, anyOf-map, anyOf-none, ones-append, rank-set, bits-append, length-bits, those-none, those-all, getD-map-in}
 
 unfoldable pub rootRecord : Bool → Bool → List Record
 rootRecord a b = cond (a || b) (record { onZero = a; onOne = b } ∷ []) []
@@ -164,14 +164,6 @@ edge-bit (true ∷ p) b (suc m) s l h =
     omega (arith, length-bits l0, length-tree (length p) m (half false s) (omega arith)) in
     rw (bits-append l0 l1, at, getD-append-add) (edge-bit p b m (half true s) (omega arith) h)
 
-root-rank : (a b : Bool) (c : Bool) → cond c b a ≡ true → ones (take (suc (2 * 0 + bit c)) (recordBits (rootRecord a b))) ≡ suc (cond c (bit a) 0)
-unfolding recordBits rootRecord ones
-root-rank false b false h = absurd (false≢true h)
-root-rank true b false h = refl
-root-rank a false true h = absurd (false≢true h)
-root-rank false true true h = refl
-root-rank true true true h = refl
-
 pub length-snoc : {A : Type 0} (p : List A) (b : A) → length (p ++ b ∷ []) ≡ suc (length p)
 length-snoc p b = rw (length-append p (b ∷ [])) (omega arith)
 
@@ -183,25 +175,58 @@ prefix-shorter [] false (suc m) s h = rw h
 prefix-shorter [] true (suc m) s h = rw (h, or-true)
 prefix-shorter (a ∷ p) b (suc m) s h = prefix-shorter p b m (half a s) h
 
--- the set bits of level d up to p's: the prefixes one longer, up to its own
+pub before-le : (p : Key) (m : ℕ) (s : KeySet) → length p ≤ m → prefixesBefore p m s ≤ prefixCount (length p) m s
+unfolding prefixesBefore prefixCount
+before-le [] m s h = omega arith
+before-le (b ∷ p) zero s h = absurd (omega arith)
+before-le (false ∷ p) (suc m) s h = omega (arith, before-le p m (half false s) (omega arith))
+before-le (true ∷ p) (suc m) s h = omega (arith, before-le p m (half true s) (omega arith))
+
+pub reach-le : (p : Key) (b : Bool) (m : ℕ) (s : KeySet) → length p ≤ m → 2 * prefixesBefore p m s + bit (hasPrefix p m s && b) ≤ 2 * prefixCount (length p) m s
+reach-le p b m s l = go (hasPrefix p m s) refl
+  where
+    go : (c : Bool) → hasPrefix p m s ≡ c → 2 * prefixesBefore p m s + bit (c && b) ≤ 2 * prefixCount (length p) m s
+    go true h = omega (arith, before-lt p m s h, bit-le b)
+    go false h = omega (arith, before-le p m s l)
+
+root-before : (a c : Bool) → ones (take (2 * 0 + bit ((a || c) && true)) (recordBits (rootRecord a c))) ≡ bit a
+unfolding recordBits rootRecord ones
+root-before false false = refl
+root-before false true = refl
+root-before true c = refl
+
+root-start : (a c : Bool) (d : Bool) → ones (take (2 * 0 + bit (d && false)) (recordBits (rootRecord a c))) ≡ 0
+unfolding ones
+root-start a c true = refl
+root-start a c false = refl
+
+-- the set bits of level d before p's edge for b, or, if p is not found, before where its record would stand: the found prefixes of d + 1 bits that are smaller
+pub step-before : (p : Key) (b : Bool) (m : ℕ) (s : KeySet) → length p < m
+    → ones (take (2 * prefixesBefore p m s + bit (hasPrefix p m s && b)) (recordBits (treeLevel (length p) m s))) ≡ prefixesBefore (p ++ b ∷ []) m s
+unfolding hasPrefix prefixesBefore treeLevel inhabited
+step-before p b zero s l = absurd (omega arith)
+step-before [] false (suc m) s l = root-start (inhabited m (half false s)) (inhabited m (half true s)) (inhabited m (half false s) || inhabited m (half true s))
+step-before [] true (suc m) s l = root-before (inhabited m (half false s)) (inhabited m (half true s)) ∙ (unfold prefixCount in omega arith)
+step-before (false ∷ p) b (suc m) s l =
+    let l0 : List Record = treeLevel (length p) m (half false s) in
+    let l1 : List Record = treeLevel (length p) m (half true s) in
+    let inside : 2 * prefixesBefore p m (half false s) + bit (hasPrefix p m (half false s) && b) ≤ length (recordBits l0) =
+    omega (arith, length-bits l0, length-tree (length p) m (half false s) (omega arith), reach-le p b m (half false s) (omega arith)) in
+    rw (bits-append l0 l1, take-append-le) (step-before p b m (half false s) (omega arith))
+step-before (true ∷ p) b (suc m) s l =
+    let l0 : List Record = treeLevel (length p) m (half false s) in
+    let l1 : List Record = treeLevel (length p) m (half true s) in
+    let at : 2 * (prefixCount (length p) m (half false s) + prefixesBefore p m (half true s)) + bit (hasPrefix p m (half true s) && b) ≡ length (recordBits l0) + (2 * prefixesBefore p m (half true s) + bit (hasPrefix p m (half true s) && b)) =
+    omega (arith, length-bits l0, length-tree (length p) m (half false s) (omega arith)) in
+    rw (bits-append l0 l1, at, take-append-add, ones-append, ones-tree (length p) m (half false s), step-before p b m (half true s) (omega arith), length-snoc p b)
+
+-- up to that edge, if it is set: one more
 pub edge-rank : (p : Key) (b : Bool) (m : ℕ) (s : KeySet) → length p < m → hasPrefix (p ++ b ∷ []) m s ≡ true
     → ones (take (suc (2 * prefixesBefore p m s + bit b)) (recordBits (treeLevel (length p) m s))) ≡ suc (prefixesBefore (p ++ b ∷ []) m s)
-unfolding hasPrefix prefixesBefore treeLevel inhabited
-edge-rank p b zero s l h = absurd (omega arith)
-edge-rank [] false (suc m) s l h = root-rank (inhabited m (half false s)) (inhabited m (half true s)) false h
-edge-rank [] true (suc m) s l h = root-rank (inhabited m (half false s)) (inhabited m (half true s)) true h ∙ ap suc (unfold prefixCount in omega arith)
-edge-rank (false ∷ p) b (suc m) s l h =
-    let l0 : List Record = treeLevel (length p) m (half false s) in
-    let l1 : List Record = treeLevel (length p) m (half true s) in
-    let inside : suc (2 * prefixesBefore p m (half false s) + bit b) ≤ length (recordBits l0) =
-    omega (arith, length-bits l0, length-tree (length p) m (half false s) (omega arith), before-lt p m (half false s) (prefix-shorter p b m (half false s) h), bit-le b) in
-    rw (bits-append l0 l1, take-append-le) (edge-rank p b m (half false s) (omega arith) h)
-edge-rank (true ∷ p) b (suc m) s l h =
-    let l0 : List Record = treeLevel (length p) m (half false s) in
-    let l1 : List Record = treeLevel (length p) m (half true s) in
-    let at : suc (2 * (prefixCount (length p) m (half false s) + prefixesBefore p m (half true s)) + bit b) ≡ length (recordBits l0) + suc (2 * prefixesBefore p m (half true s) + bit b) =
-    omega (arith, length-bits l0, length-tree (length p) m (half false s) (omega arith)) in
-    rw (bits-append l0 l1, at, take-append-add, ones-append, ones-tree (length p) m (half false s), edge-rank p b m (half true s) (omega arith) h, length-snoc p b) (omega arith)
+unfolding rank
+edge-rank p b m s l h =
+    let f : hasPrefix p m s ≡ true = prefix-shorter p b m s h in
+    rank-set (recordBits (treeLevel (length p) m s)) (2 * prefixesBefore p m s + bit b) (edge-bit p b m s l f ∙ h) ∙ ap suc (rw f at (step-before p b m s l))
 
 -- what begins with p is there
 pub prefix-inhabited : (p : Key) (m : ℕ) (s : KeySet) → hasPrefix p m s ≡ true → inhabited m s ≡ true

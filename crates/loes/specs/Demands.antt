@@ -1,22 +1,23 @@
 -- What the demands say of the calls on bytes, as propositions with no hypothesis, and all of them as one, `Demands`. The proof is proofs/Demands.antt.
 use mathlib.Core.Path.{_≡_}
 use mathlib.Core.Logic.{_↔_}
-use Prim.Native.Nat.{ℕ, suc, _<_, _≤_}
+use Prim.Native.Nat.{ℕ, _+_, _<_, _≤_}
 use mathlib.Core.Bool.{true, false, cond}
 use mathlib.Core.List.{List, [], _∷_, _++_, map}
 use mathlib.Core.Option.{none, some}
 use lib.ListN.{length, getD}
 use lib.Dec.{ltb}
-use Rattle.loes.specs.Bytes.{Bytes, packBits, front}
-use Rattle.loes.specs.Keys.{Key, KeySet, less, members, smaller}
-use Rattle.loes.specs.Edges.{edges, onesBefore, present, edgeIndex}
+use Rattle.loes.specs.Bytes.{Bytes, bit, packBits, front}
+use Rattle.loes.specs.Keys.{Key, KeySet, less, isPrefix, members, smaller}
+use Rattle.loes.specs.Edges as sequence
+use Rattle.loes.specs.Edges.{edges, present, edgeIndex}
 use Rattle.loes.specs.Entry.{Entry, keyBytes, keysOf, count, edgesOf, edgeCount, tooManyEdges, SameEntry, Valid}
 use Rattle.loes.specs.Encode.{encode}
-use Rattle.loes.specs.Refusals.{tooLarge, shortBuffer, Tests, test, firstOf}
+use Rattle.loes.specs.Refusals.{tooLarge, outOfRange, shortBuffer, Tests, test, firstOf}
 use Rattle.loes.specs.Read.{readTests, opened, read}
 use Rattle.loes.specs.Model as model
-use Rattle.loes.specs.Model.{refused, wrote, wroteKey, tells, isPresent, isAbsent, isNone, indexIs, rankIs, OutcomeOf, Outcome, saying, writing, keyIn, keyTest, packTests, batchEntry, joinTests, unionEntry, differenceEntry}
-use Rattle.loes.specs.Calls.{packCall, unionCall, differenceCall, openCall, containsCall, indexOfCall, keyAtCall, rankCall, lowerBoundCall}
+use Rattle.loes.specs.Model.{refused, wrote, wroteKey, tells, isPresent, isAbsent, isNone, indexIs, rankIs, rangeIs, OutcomeOf, Outcome, saying, writing, keyIn, keyTest, packTests, batchEntry, joinTests, unionEntry, differenceEntry, countBefore, countUnder}
+use Rattle.loes.specs.Calls.{packCall, unionCall, differenceCall, openCall, containsCall, indexOfCall, keyAtCall, rankCall, lowerBoundCall, prefixCall}
 use Rattle.loes.specs.Cursor.{before, after, Cursor, noOffsets, stays, goesToAfter, advance, advanceCall}
 use Rattle.loes.specs.Walk.{walk, visits, Roomy}
 use Rattle.loes.specs.History.{Call, modelSays, storeSays, modelAfter, storeAfter}
@@ -49,6 +50,7 @@ pub record Refuses (l : Bytes) (k : ℕ) : Type 0 where
   pub indexOf : (x : Bytes) → indexOfCall l x ≡ saying (refused k)
   pub lowerBound : (x : Bytes) → lowerBoundCall l x ≡ saying (refused k)
   pub rank : (o : ℕ) → rankCall l o ≡ saying (refused k)
+  pub prefix : (p : ℕ) (x : Bytes) → prefixCall l p x ≡ saying (refused k)
   pub keyAt : (i : ℕ) (out : Bytes) → keyAtCall l i out ≡ writing (refused k) out
   pub step : (c : Cursor) (out : Bytes) → advanceCall l c out ≡ stays k c out
   pub first : (b out : Bytes) → (unionCall l b out ≡ writing (refused k) out) × (differenceCall l b out ≡ writing (refused k) out)
@@ -68,15 +70,20 @@ pub record AnswersAgree : Type 0 where
   pub indexOf : (e : Entry) (x : Bytes) → Valid e → indexOfCall (encode e) x ≡ model.indexOf e x .outcome
   pub lowerBound : (e : Entry) (x : Bytes) → Valid e → lowerBoundCall (encode e) x ≡ model.lowerBound e x .outcome
   pub rank : (e : Entry) (o : ℕ) → Valid e → rankCall (encode e) o ≡ model.rankAt e o .outcome
+  pub prefix : (e : Entry) (p : ℕ) (x : Bytes) → Valid e → prefixCall (encode e) p x ≡ model.prefix e p x .outcome
   pub keyAt : (e : Entry) (i : ℕ) (out : Bytes) → Valid e → keyAtCall (encode e) i out ≡ model.keyAt e i out .outcome
   pub step : (e : Entry) (c : Cursor) (out : Bytes) → Valid e → advanceCall (encode e) c out ≡ advance e c out
-  -- that is, of what is not refused: whether the set has the key, how many members are smaller, the key at that place, the set bits up to the offset; and after stays after
-  pub saysMember : (e : Entry) (x : Bytes) → keyTest e x ≡ none → model.contains e x .outcome .answer ≡ cond (e .set (keyIn (e .width) x)) isPresent isAbsent
-  pub saysIndex : (e : Entry) (x : Bytes) → keyTest e x ≡ none
+  -- that is, of what is not refused: whether the set has the key, how many members are smaller, the key at that place, the set bits before the offset, how many members come before a prefix and begin with it; and after stays after
+  pub saysMember : (e : Entry) (x : Bytes) → keyTest (e .width) x ≡ none → model.contains e x .outcome .answer ≡ cond (e .set (keyIn (e .width) x)) isPresent isAbsent
+  pub saysIndex : (e : Entry) (x : Bytes) → keyTest (e .width) x ≡ none
       → model.indexOf e x .outcome .answer ≡ cond (e .set (keyIn (e .width) x)) (indexIs (smaller (keyIn (e .width) x) (keysOf e))) isAbsent
   pub saysKey : (e : Entry) (i : ℕ) (out : Bytes) → i < count e → keyBytes (e .width) ≤ length out
       → model.keyAt e i out .outcome ≡ writing (wroteKey (keyBytes (e .width))) (front (packBits (getD (keysOf e) i [])) out)
-  pub saysRank : (e : Entry) (o : ℕ) → o < edgeCount e → model.rankAt e o .outcome .answer ≡ rankIs (onesBefore (edgesOf e) (suc o))
+  pub saysRank : (e : Entry) (o : ℕ) → o ≤ edgeCount e → model.rankAt e o .outcome .answer ≡ rankIs (sequence.rank (edgesOf e) o)
+  pub saysPrefix : (e : Entry) (p : ℕ) (x : Bytes) → p ≤ e .width → keyTest p x ≡ none
+      → model.prefix e p x .outcome .answer ≡ rangeIs (countBefore e (keyIn p x)) (countUnder e (keyIn p x))
+  -- (a prefix of more bits than the width is refused with 9, whatever its bytes)
+  pub longPrefix : (e : Entry) (p : ℕ) (x : Bytes) → e .width < p → model.prefix e p x .outcome ≡ saying (refused outOfRange)
   pub afterStays : (e : Entry) (out : Bytes) → advance e (noOffsets after) out ≡ goesToAfter out
   -- and that is what its edges tell: following them, a key is present exactly if the set has it, and its index is how many members are smaller
   pub presence : (k : Key) (m : ℕ) (s : KeySet) → length k ≡ m → 0 < m → present (edges m s) k ≡ s k
@@ -85,10 +92,17 @@ pub record AnswersAgree : Type 0 where
   pub place : (e : Entry) (i : ℕ) → i < count e
       → (length (getD (keysOf e) i []) ≡ e .width) × (e .set (getD (keysOf e) i []) ≡ true) × (smaller (getD (keysOf e) i []) (keysOf e) ≡ i)
   -- a lower bound is the index of the first member that is not below the key, or none if all are below it
-  pub bound : (e : Entry) (x : Bytes) (i : ℕ) → keyTest e x ≡ none → i < count e → less (getD (keysOf e) i []) (keyIn (e .width) x) ≡ false
+  pub bound : (e : Entry) (x : Bytes) (i : ℕ) → keyTest (e .width) x ≡ none → i < count e → less (getD (keysOf e) i []) (keyIn (e .width) x) ≡ false
       → ((j : ℕ) → j < i → less (getD (keysOf e) j []) (keyIn (e .width) x) ≡ true) → model.lowerBound e x .outcome .answer ≡ indexIs i
-  pub noBound : (e : Entry) (x : Bytes) → keyTest e x ≡ none → ((j : ℕ) → j < count e → less (getD (keysOf e) j []) (keyIn (e .width) x) ≡ true)
+  pub noBound : (e : Entry) (x : Bytes) → keyTest (e .width) x ≡ none → ((j : ℕ) → j < count e → less (getD (keysOf e) j []) (keyIn (e .width) x) ≡ true)
       → model.lowerBound e x .outcome .answer ≡ isNone
+  -- the members that begin with a prefix are those at the indexes from its first on, as many as are counted
+  pub range : (e : Entry) (q : Key) (i : ℕ) → length q ≤ e .width → i < count e
+      → (isPrefix q (getD (keysOf e) i []) ≡ true) ↔ ((countBefore e q ≤ i) × (i < countBefore e q + countUnder e q))
+  -- all members begin with no bits; with the bits of a whole key it is the key itself; and a prefix has what it has with 0 behind it and with 1
+  pub noBits : (e : Entry) → (countBefore e [] ≡ 0) × (countUnder e [] ≡ count e)
+  pub wholeKey : (e : Entry) (k : Key) → length k ≡ e .width → (countBefore e k ≡ smaller k (keysOf e)) × (countUnder e k ≡ bit (e .set k))
+  pub halves : (e : Entry) (q : Key) → length q < e .width → countUnder e q ≡ countUnder e (q ++ false ∷ []) + countUnder e (q ++ true ∷ [])
   -- from before, with room for a key each time, the steps go to the members in order, each once, and then to after
   pub wholeWalk : (l : Bytes) (e : Entry) → read l ≡ opened e → (outs : List Bytes) (last : Bytes) → length outs ≡ count e → Roomy (keyBytes (e .width)) outs
       → walk (advanceCall l) (noOffsets before) (outs ++ last ∷ []) ≡ visits e (keysOf e) outs ++ goesToAfter last ∷ []

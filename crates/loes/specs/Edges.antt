@@ -42,19 +42,15 @@ ones [] = 0
 ones (true ∷ e) = suc (ones e)
 ones (false ∷ e) = ones e
 
--- the set bits before offset o
-unfoldable pub onesBefore : List Bool → ℕ → ℕ
-onesBefore e o = ones (take o e)
-
--- the set bits at offsets 0 to o, o included
+-- the set bits strictly before offset o (document 02, request 2)
 unfoldable pub rank : List Bool → ℕ → ℕ
-rank e o = onesBefore e (suc o)
+rank e o = ones (take o e)
 
 -- ---- Following edges
--- the offsets of a key's edges from record r on: the edge at offset o leads to the record whose bits are at 2·rank(o) and 2·rank(o)+1
+-- the offsets of a key's edges from record r on: the edge at offset o leads to the record whose bits are at 2·rank(o+1) and 2·rank(o+1)+1
 unfoldable pub edgeOffsets : List Bool → ℕ → Key → List ℕ
 edgeOffsets e r [] = []
-edgeOffsets e r (b ∷ k) = (2 * r + bit b) ∷ edgeOffsets e (rank e (2 * r + bit b)) k
+edgeOffsets e r (b ∷ k) = (2 * r + bit b) ∷ edgeOffsets e (rank e (suc (2 * r + bit b))) k
 
 -- the bits at these offsets are set
 unfoldable pub allSet : List Bool → List ℕ → Bool
@@ -70,6 +66,6 @@ lastOf [] = 0
 lastOf (o ∷ []) = o
 lastOf (o ∷ q ∷ os) = lastOf (q ∷ os)
 
--- a key's index (document 01: lot): the rank of its last edge, less the set bits in all earlier levels, less 1
+-- a key's index (document 01: lot): the rank behind its last edge, less the set bits in all earlier levels, less 1
 unfoldable pub edgeIndex : ℕ → KeySet → Key → ℕ
-edgeIndex m s k = rank (edges m s) (lastOf (edgeOffsets (edges m s) 0 k)) - ones (edgesBefore (m - 1) m s) - 1
+edgeIndex m s k = rank (edges m s) (suc (lastOf (edgeOffsets (edges m s) 0 k))) - ones (edgesBefore (m - 1) m s) - 1

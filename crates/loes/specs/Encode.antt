@@ -5,7 +5,7 @@ use mathlib.Core.List.{List, [], _∷_, _++_, flatten}
 use lib.ListN.{length, drop}
 use Rattle.loes.specs.Limits.{blockBits, subBlockBits, subBlocks, lengthBytes, widthBytes, countBytes, levelEntry, blockEntry, subBlockEntry}
 use Rattle.loes.specs.Bytes.{Bytes, started, bigEndian, bigEndians, packBits}
-use Rattle.loes.specs.Edges.{edgesBefore, onesBefore}
+use Rattle.loes.specs.Edges.{edgesBefore, rank}
 use Rattle.loes.specs.Entry.{Entry, count, edgesOf, edgeCount}
 
 -- a field: a one-byte tag, a two-byte length and that many bytes
@@ -14,11 +14,11 @@ field tag body = tag ∷ (bigEndian lengthBytes (length body) ++ body)
 
 -- set bits from the start of the sequence to the start of block j
 unfoldable pub blockOnes : List Bool → ℕ → ℕ
-blockOnes e j = onesBefore e (blockBits * j)
+blockOnes e j = rank e (blockBits * j)
 
 -- set bits from the start of its block to the start of sub-block j
 unfoldable pub subBlockOnes : List Bool → ℕ → ℕ
-subBlockOnes e j = onesBefore (drop (blockBits * (j / subBlocks)) e) (subBlockBits * (j % subBlocks))
+subBlockOnes e j = rank (drop (blockBits * (j / subBlocks)) e) (subBlockBits * (j % subBlocks))
 
 -- edge bits in level d and all levels before it
 unfoldable pub levelEnd : Entry → ℕ → ℕ

@@ -14,8 +14,8 @@ use Rattle.loes.specs.Entry.{Entry, edgesOf, edgeCount, tooManyEdges, Va
 use Rattle.loes.specs.Encode.{blockOnes, subBlockOnes, encode}
 use Rattle.loes.specs.Refusals.{firstOf}
 use Rattle.loes.specs.Read.{endOf}
-use Rattle.loes.specs.Model.{Answer, refused, wrote, wroteKey, tells, isAbsent, isNone, indexIs, rankIs, saying, writing, packTests, batchEntry, unionEntry}
-use Rattle.loes.specs.Calls.{packCall, unionCall, differenceCall, openCall, containsCall, indexOfCall, keyAtCall, rankCall, lowerBoundCall}
+use Rattle.loes.specs.Model.{Answer, refused, wrote, wroteKey, tells, isAbsent, isNone, indexIs, rankIs, rangeIs, saying, writing, packTests, batchEntry, unionEntry}
+use Rattle.loes.specs.Calls.{packCall, unionCall, differenceCall, openCall, containsCall, indexOfCall, keyAtCall, rankCall, lowerBoundCall, prefixCall}
 use Rattle.loes.specs.Cursor.{State, before, at, after, Cursor, cursorWith, padded, Advanced, advanceCall}
 
 -- ---- Words of the statements
@@ -58,7 +58,7 @@ pub record Examples : Type 0 where
   pub p2-bytes : encode three ≡ P2
   pub p2 : packCall 3 (0x00 ∷ 0x60 ∷ 0xC0 ∷ []) (room 50) ≡ writing (wrote (48 ∷ [])) (P2 ++ room 2)
   pub p2-tells : openCall P2 ≡ saying (tells 3 3 12)
-  pub p3-rank : rankCall P2 9 ≡ saying (rankIs 7)
+  pub p3-rank : rankCall P2 10 ≡ saying (rankIs 7)
   pub p3-last : lastOf (edgeOffsets (edgesOf three) 0 (false ∷ true ∷ true ∷ [])) ≡ 9
   pub p3-earlier : ones (edgesBefore 2 3 (three .set)) ≡ 5
   pub p3-index : edgeIndex 3 (three .set) (false ∷ true ∷ true ∷ []) ≡ 1
@@ -119,7 +119,19 @@ pub record FurtherExamples : Type 0 where
   pub empty-record : openCall (take 31 P2 ++ 0x20 ∷ drop 32 P2) ≡ saying (refused 7)
   pub made-up-count : openCall (take 11 P2 ++ 0x04 ∷ drop 12 P2) ≡ saying (refused 7)
   pub two-bytes : indexOfCall P2 (0 ∷ 0 ∷ []) ≡ saying (refused 8)
-  pub rank-12 : rankCall P2 12 ≡ saying (refused 9)
+  pub rank-0 : rankCall P2 0 ≡ saying (rankIs 0)
+  pub rank-12 : rankCall P2 12 ≡ saying (rankIs 8)
+  pub rank-13 : rankCall P2 13 ≡ saying (refused 9)
+  pub rank-empty : rankCall P1 0 ≡ saying (rankIs 0)
+  pub prefix-none : prefixCall P2 0 [] ≡ saying (rangeIs 0 3)
+  pub prefix-first : prefixCall P2 1 (0x00 ∷ []) ≡ saying (rangeIs 0 2)
+  pub prefix-last : prefixCall P2 1 (0x80 ∷ []) ≡ saying (rangeIs 2 1)
+  pub prefix-absent : prefixCall P2 2 (0x80 ∷ []) ≡ saying (rangeIs 2 0)
+  pub prefix-key : prefixCall P2 3 (0x60 ∷ []) ≡ saying (rangeIs 1 1)
+  pub prefix-empty : prefixCall P1 0 [] ≡ saying (rangeIs 0 0)
+  pub prefix-4 : prefixCall P2 4 (0x60 ∷ []) ≡ saying (refused 9)
+  pub prefix-long : prefixCall P2 0 (0x00 ∷ []) ≡ saying (refused 8)
+  pub prefix-unused : prefixCall P2 2 (0x60 ∷ []) ≡ saying (refused 8)
   pub ragged : packCall 9 (0 ∷ 0 ∷ 0 ∷ []) (room 1) ≡ writing (refused 10) (room 1)
   pub unused : packCall 3 (0x60 ∷ 0x01 ∷ []) (room 1) ≡ writing (refused 11) (room 1)
   pub widths : unionCall P2 (encode (entryOf 1 [])) (room 1) ≡ writing (refused 13) (room 1)
@@ -138,6 +150,7 @@ pub record FurtherExamples : Type 0 where
   pub unused-offset : advanceCall P2 (cursor before (0 ∷ 0 ∷ 1 ∷ [])) (room 2) ≡ advanced (refused 15) (room 2) before (0 ∷ 0 ∷ 1 ∷ [])
   -- where two tests hold, the first gives its number
   pub nine-before-14 : keyAtCall P2 3 [] ≡ writing (refused 9) []
+  pub nine-before-8 : prefixCall P2 4 (0x61 ∷ 0x00 ∷ []) ≡ saying (refused 9)
   pub eleven-before-12 : packCall 3 (0x60 ∷ 0x01 ∷ []) (room 48) ≡ writing (refused 11) (room 48)
   pub fifteen-before-14 : advanceCall P2 (cursor at (0 ∷ 2 ∷ 7 ∷ [])) [] ≡ advanced (refused 15) [] at (0 ∷ 2 ∷ 7 ∷ [])
 

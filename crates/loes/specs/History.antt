@@ -5,8 +5,8 @@ use mathlib.Core.Option.{Option, none, some}
 use lib.ListN.{take}
 use Rattle.loes.specs.Bytes.{Bytes}
 use Rattle.loes.specs.Entry.{Entry}
-use Rattle.loes.specs.Model.{Answer, refused, wrote, wroteKey, tells, isPresent, isAbsent, isNone, isPosted, indexIs, rankIs, Outcome, Step, pack, union, difference, contains, indexOf, keyAt, rankAt, lowerBound}
-use Rattle.loes.specs.Calls.{packCall, unionCall, differenceCall, containsCall, indexOfCall, keyAtCall, rankCall, lowerBoundCall}
+use Rattle.loes.specs.Model.{Answer, refused, wrote, wroteKey, tells, isPresent, isAbsent, isNone, isPosted, indexIs, rankIs, rangeIs, Outcome, Step, pack, union, difference, contains, indexOf, keyAt, rankAt, lowerBound, prefix}
+use Rattle.loes.specs.Calls.{packCall, unionCall, differenceCall, containsCall, indexOfCall, keyAtCall, rankCall, lowerBoundCall, prefixCall}
 
 -- A call as a history has it: encodings by their places in the store, counted from 0, and whatever else it is given; its output buffer comes last.
 pub data Call : Type 0 where
@@ -23,6 +23,8 @@ pub data Call : Type 0 where
   askKeyAt : ℕ → ℕ → Bytes → Call
   -- a place and an offset
   askRank : ℕ → ℕ → Call
+  -- a place and a prefix: its bits, and the bytes they are in
+  askPrefix : ℕ → ℕ → Bytes → Call
 
 -- what follows for the element at a place; a place not yet filled is no call
 unfoldable pub atPlace : {A B : Type 0} → List A → ℕ → (A → Option B) → Option B
@@ -40,6 +42,7 @@ modelCall t (askIndexOf i x) = atPlace t i λ e. some (indexOf e x)
 modelCall t (askLowerBound i x) = atPlace t i λ e. some (lowerBound e x)
 modelCall t (askKeyAt i n out) = atPlace t i λ e. some (keyAt e n out)
 modelCall t (askRank i o) = atPlace t i λ e. some (rankAt e o)
+modelCall t (askPrefix i p x) = atPlace t i λ e. some (prefix e p x)
 
 unfoldable pub addedBy : Option Step → List Entry
 addedBy none = []
@@ -68,6 +71,7 @@ storeCall s (askIndexOf i x) = atPlace s i λ a. some (indexOfCall a x)
 storeCall s (askLowerBound i x) = atPlace s i λ a. some (lowerBoundCall a x)
 storeCall s (askKeyAt i n out) = atPlace s i λ a. some (keyAtCall a n out)
 storeCall s (askRank i o) = atPlace s i λ a. some (rankCall a o)
+storeCall s (askPrefix i p x) = atPlace s i λ a. some (prefixCall a p x)
 
 -- the fronts of the output buffers, as long as the lengths returned
 unfoldable pub cut : List ℕ → List Bytes → List Bytes
@@ -87,6 +91,7 @@ writtenWith isNone bufs = []
 writtenWith isPosted bufs = []
 writtenWith (indexIs n) bufs = []
 writtenWith (rankIs n) bufs = []
+writtenWith (rangeIs i n) bufs = []
 
 unfoldable pub writtenBy : Option Outcome → List Bytes
 writtenBy none = []

@@ -6,7 +6,7 @@ use mathlib.Core.Option.{Option, none, some}
 use lib.ListN.{length, take, drop, getD}
 use lib.Dec.{eqb, ltb}
 use Rattle.loes.specs.Bytes.{Bytes, tabulate, packBits, bitsIn, front}
-use Rattle.loes.specs.Keys.{Key, anyOf, less, smaller, setOf, either, without}
+use Rattle.loes.specs.Keys.{Key, those, anyOf, less, isPrefix, smaller, setOf, either, without}
 use Rattle.loes.specs.Edges.{rank}
 use Rattle.loes.specs.Entry.{Entry, keyBytes, keysOf, count, edgesOf, edgeCount, withSet, wrongWidth, tooManyEdges}
 use Rattle.loes.specs.Encode.{encode}
@@ -27,6 +27,8 @@ pub data Answer : Type 0 where
   isPosted : Answer
   indexIs : ℕ → Answer
   rankIs : ℕ → Answer
+  -- so many members come before a prefix, and so many begin with it
+  rangeIs : ℕ → ℕ → Answer
 
 -- what is returned, and what was lent for output, after the call
 pub record OutcomeOf (L : Type 0) : Type 0 where
@@ -107,13 +109,17 @@ keyIn m x = bitsIn x m
 unfoldable pub unusedSet : ℕ → Bytes → Bool
 unusedSet m x = anyOf (λ (b : Bool). b) (drop m (bitsIn x (8 * keyBytes m)))
 
--- 8: not t bytes, or an unused bit set
-unfoldable pub keyTest : Entry → Bytes → Option ℕ
-keyTest e x = test (not (eqb (length x) (keyBytes (e .width))) || unusedSet (e .width) x) badKey
+-- 8, of a key or a prefix of m bits: not as many bytes as they take, or an unused bit set
+unfoldable pub keyTest : ℕ → Bytes → Option ℕ
+keyTest m x = test (not (eqb (length x) (keyBytes m)) || unusedSet m x) badKey
 
 -- 9: not below
 unfoldable pub belowTest : ℕ → ℕ → Option ℕ
 belowTest i n = test (not (ltb i n)) outOfRange
+
+-- 9: above
+unfoldable pub atMostTest : ℕ → ℕ → Option ℕ
+atMostTest i n = test (ltb n i) outOfRange
 
 -- ---- Pack
 -- the keys of a batch, laid end to end, t bytes each
@@ -161,30 +167,46 @@ union e f out = writes (joinTests e f) (unionEntry e f ∷ []) (out ∷ [])
 unfoldable pub difference : Entry → Entry → Bytes → Step
 difference e f out = writes (joinTests e f) (differenceEntry e f ∷ []) (out ∷ [])
 
--- ---- Open, and the five questions
+-- ---- Open, and document 01's five questions
 unfoldable pub opens : Entry → Step
 opens e = answers [] (tells (e .width) (count e) (edgeCount e))
 
 -- document 01: present or not
 unfoldable pub contains : Entry → Bytes → Step
-contains e x = answers (keyTest e x ∷ []) (cond (e .set (keyIn (e .width) x)) isPresent isAbsent)
+contains e x = answers (keyTest (e .width) x ∷ []) (cond (e .set (keyIn (e .width) x)) isPresent isAbsent)
 
 -- document 01: lot, or absent
 unfoldable pub indexOf : Entry → Bytes → Step
 indexOf e x =
     let k : Key = keyIn (e .width) x in
-    answers (keyTest e x ∷ []) (cond (e .set k) (indexIs (smaller k (keysOf e))) isAbsent)
+    answers (keyTest (e .width) x ∷ []) (cond (e .set k) (indexIs (smaller k (keysOf e))) isAbsent)
 
 -- document 01: ticket of a lot; the key that has i smaller is the one at place i of the keys in order
 unfoldable pub keyAt : Entry → ℕ → Bytes → Step
 keyAt e i out = writesKey (belowTest i (count e) ∷ []) (e .width) (getD (keysOf e) i []) out
 
--- document 01: rank of an offset
+-- document 01: rank of an offset; document 02: from 0 to b
 unfoldable pub rankAt : Entry → ℕ → Step
-rankAt e o = answers (belowTest o (edgeCount e) ∷ []) (rankIs (rank (edgesOf e) o))
+rankAt e o = answers (atMostTest o (edgeCount e) ∷ []) (rankIs (rank (edgesOf e) o))
 
 -- document 01: seek; how many keys are smaller, or none if all are
 unfoldable pub lowerBound : Entry → Bytes → Step
 lowerBound e x =
     let n : ℕ = smaller (keyIn (e .width) x) (keysOf e) in
-    answers (keyTest e x ∷ []) (cond (eqb n (count e)) isNone (indexIs n))
+    answers (keyTest (e .width) x ∷ []) (cond (eqb n (count e)) isNone (indexIs n))
+
+-- ---- Prefixes (document 02, request 2: tickets under one beginning)
+-- how many members' own first bits, as many as q has, are smaller
+unfoldable pub countBefore : Entry → Key → ℕ
+countBefore e q = smaller q (map (take (length q)) (keysOf e))
+
+-- how many members begin with q
+unfoldable pub countUnder : Entry → Key → ℕ
+countUnder e q = length (those (isPrefix q) (keysOf e))
+
+-- 9 for more bits than the width, then 8
+unfoldable pub prefixTests : Entry → ℕ → Bytes → Tests
+prefixTests e p x = atMostTest p (e .width) ∷ keyTest p x ∷ []
+
+unfoldable pub prefix : Entry → ℕ → Bytes → Step
+prefix e p x = answers (prefixTests e p x) (rangeIs (countBefore e (keyIn p x)) (countUnder e (keyIn p x)))

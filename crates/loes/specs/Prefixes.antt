@@ -6,7 +6,7 @@ use lib.ListN.{length}
 use lib.Dec.{ltb}
 use Rattle.loes.specs.Bytes.{bit}
 use Rattle.loes.specs.Keys.{Key, KeySet}
-use Rattle.loes.specs.Edges.{onesBefore}
+use Rattle.loes.specs.Edges.{rank}
 
 -- the keys of a set that begin with b, without that bit
 unfoldable pub half : Bool → KeySet → KeySet
@@ -47,4 +47,4 @@ roots b = bit (ltb 0 b)
 -- where the level before level d ends: the records there are so far are the roots and one for each set bit before
 unfoldable pub ends : ℕ → List Bool → ℕ → ℕ
 ends c e zero = 0
-ends c e (suc d) = 2 * (c + onesBefore e (ends c e d))
+ends c e (suc d) = 2 * (c + rank e (ends c e d))

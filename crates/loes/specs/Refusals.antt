@@ -34,11 +34,11 @@ abbrev pub notAnEncoding : ℕ
 notAnEncoding = 7
 
 -- ---- Whoever puts a question
--- a key that isn't t bytes, or has an unused bit set
+-- a key that isn't t bytes, or has an unused bit set; a prefix likewise
 abbrev pub badKey : ℕ
 badKey = 8
 
--- an index not below n, or an offset not below b
+-- an index not below n, an offset above b, or a prefix of more bits than the width
 abbrev pub outOfRange : ℕ
 outOfRange = 9
 

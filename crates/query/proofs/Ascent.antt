@@ -10,20 +10,19 @@ use lib.Seq.{take-all, length-take-le, ext-getD, getD-append-add, getD-drop, get
 use Rattle.loes.specs.Bytes.{odd, front}
 use Rattle.loes.specs.Keys.{Key, KeySet}
 use Rattle.loes.specs.Limits.{maxEdges}
-use Rattle.loes.specs.Edges.{ones, onesBefore, edges, edgesBefore, edgeOffsets}
-use Rattle.loes.specs.Prefixes.{inhabited, prefixesBefore, ends, recordsBefore, recordIndex}
+use Rattle.loes.specs.Edges.{ones, rank, edges, edgesBefore, edgeOffsets}
+use Rattle.loes.specs.Prefixes.{inhabited, prefixesBefore, recordsBefore, recordIndex}
 use Rattle.loes.specs.Entry.{Entry, keysOf, count, edgesOf, edgeCount, Valid}
 use Rattle.loes.specs.Cursor.{pathOf, keyOf, keyOfPath}
 use Rattle.loes.proofs.Bytes.{getD-tabulate}
 use Rattle.loes.proofs.Bits.{tabulate-ext}
-use Rattle.loes.proofs.Tree.{bit-le, count-one}
-use Rattle.loes.proofs.Ends.{ends-set}
-use Rattle.loes.proofs.Navigation.{length-edgesBefore}
+use Rattle.loes.proofs.Tree.{bit-le}
+use Rattle.loes.proofs.Navigation.{length-edgesBefore, rank-level}
 use Rattle.loes.proofs.Members.{At, at-place}
 use Rattle.loes.proofs.Cursors.{length-offsets}
 use Rattle.bits.specs.Tables.{select}
-use Rattle.loes.proofs.Seven.{ones-le}
-use Rattle.query.proofs.BitLists.{up, ones-less, rank-is}
+use Rattle.loes.proofs.Lists.{ones-le, rank-set}
+use Rattle.query.proofs.BitLists.{up, ones-less}
 use Rattle.query.proofs.Paths.{recordAt, Leading, offsets-are, ofKey, key-of, member-leads}
 use Rattle.query.specs.Select.{levelStart}
 use Rattle.query.proofs.Descent.{inhabited-some}
@@ -43,11 +42,10 @@ front-by x l l' h n a b =
     ])
 
 -- the set bits before a level: each leads to a record, of a level to this one, but for the first
-level-ones : (m : ℕ) (s : KeySet) (d : ℕ) → d < m → inhabited m s ≡ true → length (edgesBefore (d + 1) m s) ≡ 2 * (1 + onesBefore (edges m s) (length (edgesBefore d m s)))
-unfolding ends
+level-ones : (m : ℕ) (s : KeySet) (d : ℕ) → d < m → inhabited m s ≡ true → length (edgesBefore (d + 1) m s) ≡ 2 * (1 + rank (edges m s) (length (edgesBefore d m s)))
 level-ones m s d h i =
-    ap (λ x. length (edgesBefore x m s)) (sym (up d)) ∙ ends-set (suc d) m s h
-    ∙ rw (count-one m s i) (ap (λ x. 2 * (1 + onesBefore (edges m s) x)) (rw (← (count-one m s i)) (sym (ends-set d m s (omega arith)))))
+    let n : d + 1 ≡ suc d = omega arith in
+    rw (n, length-edgesBefore (suc d) m s h, length-edgesBefore d m s (omega arith)) (omega (arith, rank-level d m s (omega arith) i))
 
 -- the last level ends with the edges
 pub level-last : (e : Entry) (m b : ℕ) → m ≡ e .width → b ≡ edgeCount e → b ≡ levelStart e m
@@ -108,11 +106,11 @@ module _ (e : Entry) (v : Valid e) (i : ℕ) (lt : i < count e) where
         × (recordAt (edges (e .width) (e .set)) (ofKey (e .width) (e .set) (here .key)) (suc d) ≡ recordIndex (take (suc d) (here .key)) (e .width) (e .set))
     leads = member-leads (e .width) (e .set) (here .key) (here .size) (here .inside) (suc d) dm
 
-    r-is : r ≡ suc (onesBefore (edgesOf e) (ofKey (e .width) (e .set) (here .key) d))
+    r-is : r ≡ suc (rank (edgesOf e) (ofKey (e .width) (e .set) (here .key) d))
     unfolding recordAt edgesOf
     r-is =
         er ∙ ap (λ x. recordIndex (take x (here .key)) (e .width) (e .set)) (sym (up d)) ∙ sym (leads .1)
-        ∙ rank-is (edges (e .width) (e .set)) (ofKey (e .width) (e .set) (here .key) d) (leads .0 .1 .1)
+        ∙ rank-set (edges (e .width) (e .set)) (ofKey (e .width) (e .set) (here .key) d) (leads .0 .1 .1)
 
     up-in : (0 < r) × (r - 1 < ones (edgesOf e)) × (r ≤ edgeCount e)
     unfolding edgesOf edgeCount
@@ -124,7 +122,7 @@ module _ (e : Entry) (v : Valid e) (i : ℕ) (lt : i < count e) where
     up-edge : select (edgesOf e) (r - 1) ≡ ofKey (e .width) (e .set) (here .key) d
     unfolding edgesOf
     up-edge =
-        let z : r - 1 ≡ onesBefore (edges (e .width) (e .set)) (ofKey (e .width) (e .set) (here .key) d) = omega (arith, r-is) in
+        let z : r - 1 ≡ rank (edges (e .width) (e .set)) (ofKey (e .width) (e .set) (here .key) d) = omega (arith, r-is) in
         ap (select (edges (e .width) (e .set))) z ∙ select-at (edges (e .width) (e .set)) (ofKey (e .width) (e .set) (here .key) d) (leads .0 .1 .1)
 
     up-next : ofKey (e .width) (e .set) (here .key) d / 2 ≡ recordIndex (take d (here .key)) (e .width) (e .set)
@@ -132,7 +130,7 @@ module _ (e : Entry) (v : Valid e) (i : ℕ) (lt : i < count e) where
     up-next = omega (arith, bit-le (getD (here .key) d false))
 
     -- the level above, and the record's number on its own
-    up-level : (levelStart e (d + 1) / 2 ≤ r) × (onesBefore (edgesOf e) (levelStart e d) + (r - levelStart e (d + 1) / 2) ≡ r - 1)
+    up-level : (levelStart e (d + 1) / 2 ≤ r) × (rank (edgesOf e) (levelStart e d) + (r - levelStart e (d + 1) / 2) ≡ r - 1)
     unfolding levelStart edgesOf recordIndex
     up-level =
         let m : ℕ = e .width in
@@ -170,7 +168,7 @@ module _ (e : Entry) (v : Valid e) (i : ℕ) (lt : i < count e) (os₀ : List �
     pub turn-in : (0 < r) × (r - 1 < ones (edgesOf e)) × (r ≤ edgeCount e)
     turn-in = up-in e v i lt (d - 1) r dm er
 
-    pub turn-level : (levelStart e d / 2 ≤ r) × (onesBefore (edgesOf e) (levelStart e (d - 1)) + (r - levelStart e d / 2) ≡ r - 1)
+    pub turn-level : (levelStart e d / 2 ≤ r) × (rank (edgesOf e) (levelStart e (d - 1)) + (r - levelStart e d / 2) ≡ r - 1)
     turn-level = let z : d - 1 + 1 ≡ d = omega arith in rw z at (up-level e v i lt (d - 1) r dm er)
 
     pub turn-next : (o : ℕ) → o ≡ select (edgesOf e) (r - 1) → UpTo e i (d - 1) (o / 2) os₀ (set os (d - 1) o)

@@ -8,9 +8,8 @@ use native.Mathlib.Decide.{le-ind, decLe}
 use lib.ListN.{length, take, getD, List·getD-eq-default}
 use lib.Seq.{take-append-le, take-all}
 use Rattle.loes.specs.Bytes.{Bytes, tabulate, bitAt, bitsIn}
-use Rattle.loes.specs.Edges.{ones, onesBefore, rank}
+use Rattle.loes.specs.Edges.{ones, rank}
 use Rattle.loes.proofs.Bits.{length-bitsIn}
-use Rattle.loes.proofs.Seven.{before-suc}
 
 pub up : (n : ℕ) → suc n ≡ n + 1
 up n = omega arith
@@ -29,14 +28,10 @@ take-bits l o n h =
 pub set-below : (e : List Bool) (o : ℕ) → getD e o false ≡ true → o < length e
 set-below e o h = elim (decLe (length e) o) [ yes y ↦ absurd (false≢true (sym (List·getD-eq-default e false y) ∙ h)) | no y ↦ omega arith ]
 
-pub ones-less : (e : List Bool) (o : ℕ) → getD e o false ≡ true → onesBefore e o < ones e
-unfolding onesBefore ones
+pub ones-less : (e : List Bool) (o : ℕ) → getD e o false ≡ true → rank e o < ones e
+unfolding rank ones
 ones-less [] o h = absurd (false≢true h)
 ones-less (true ∷ e) zero h = omega arith
 ones-less (true ∷ e) (suc o) h = omega (arith, ones-less e o h)
 ones-less (false ∷ e) zero h = absurd (false≢true h)
 ones-less (false ∷ e) (suc o) h = ones-less e o h
-
-pub rank-is : (e : List Bool) (o : ℕ) → getD e o false ≡ true → rank e o ≡ suc (onesBefore e o)
-unfolding rank
-rank-is e o h = before-suc e o ∙ rw h (omega arith)

@@ -12,13 +12,13 @@ use Rattle.loes.proofs.Tests.{lt-yes}
 use lib.ListN.{length, drop, getD, length-drop}
 use Rattle.loes.specs.Limits.{blockBits, subBlockBits}
 use Rattle.loes.specs.Bytes.{Bytes, started, numberAt, bitsIn}
-use Rattle.loes.specs.Edges.{ones, onesBefore}
+use Rattle.loes.specs.Edges.{ones, rank}
 use Rattle.loes.specs.Entry.{edgesOf, edgeCount}
 use Rattle.loes.specs.Encode.{blockOnes, subBlockOnes}
 use Rattle.loes.specs.Read.{start5, entryIn}
 use Rattle.bits.specs.Tables.{select, bits8, placeOf, Tallies}
-use Rattle.bits.proofs.Counts.{before-bits, ones-more, shift-small, part-ones}
-use Rattle.loes.proofs.Seven.{ones-le}
+use Rattle.bits.proofs.Counts.{rank-bits, ones-more, shift-small, part-ones}
+use Rattle.loes.proofs.Lists.{ones-le}
 use Rattle.encoding.specs.declared.Encoding.{Encoding}
 use Rattle.encoding.specs.Opened.{Opens, edgesAt}
 use Rattle.encoding.proofs.Opened.{opens-room, opens-edges, opens-counted}
@@ -40,12 +40,12 @@ before-is l d t at from part table small =
     ∙ ap (λ x. ones (bits8 (x / 2 ^ (8 - from % 8)))) g
     ∙ part-ones y (from / 8) (from % 8) (omega (arith, g, small)) (omega arith) ∙ ap (λ x. ones (bitsIn (drop (from / 8) x) (from % 8))) (sym part)
 
-before-all : (e : List Bool) (n : ℕ) → length e ≤ n → onesBefore e n ≡ ones e
-unfolding onesBefore
-before-all e n h = ap ones (take-all n e h)
+rank-all : (e : List Bool) (n : ℕ) → length e ≤ n → rank e n ≡ ones e
+unfolding rank
+rank-all e n h = ap ones (take-all n e h)
 
 pub first-block : (e : List Bool) → blockOnes e 0 ≡ 0
-unfolding blockOnes onesBefore ones
+unfolding blockOnes rank ones
 first-block e = refl
 
 module _ (l : Bytes) (e : Encoding) (o : Opens l e) where
@@ -66,8 +66,8 @@ module _ (l : Bytes) (e : Encoding) (o : Opens l e) where
     unfolding numbered edgesAt
     start-is k block sub a c q h ea la ec lc =
         let z : 8 * (64 * sub) ≡ 512 * sub = omega arith in
-        let y : onesBefore (edgesOf (entryIn l)) (512 * sub) ≡ ones (bitsIn d (8 * (64 * sub))) =
-        ap (λ x. onesBefore x (512 * sub)) (sym (opens-edges l e o)) ∙ before-bits (drop (e .edges) l) (e .bits) (512 * sub) (omega arith)
+        let y : rank (edgesOf (entryIn l)) (512 * sub) ≡ ones (bitsIn d (8 * (64 * sub))) =
+        ap (λ x. rank x (512 * sub)) (sym (opens-edges l e o)) ∙ rank-bits (drop (e .edges) l) (e .bits) (512 * sub) (omega arith)
         ∙ ap₂ (λ x y. ones (bitsIn x y)) (sym part) (sym z) in
         omega (arith, y, sub-block-start (edgesOf (entryIn l)) sub, ea, ec, ap (blockOnes (edgesOf (entryIn l))) q)
 
@@ -83,18 +83,18 @@ module _ (l : Bytes) (e : Encoding) (o : Opens l e) where
         (let z = ones-mono d (e .bits) (8 * (length d - 8)) r in omega (arith, y, z), select-more d (e .bits) (8 * length d) k (omega arith) y ∙ ap (λ x. select x k) b)
 
     -- from an offset on: the byte of the offset, and its bits before the offset
-    pub behind-is : (from k c : ℕ) → onesBefore (edgesOf (entryIn l)) from + k < ones (edgesOf (entryIn l))
-        → c ≡ ones (bitsIn (drop (from / 8) d) (from % 8)) → (from < e .bits) × (numbered d (from / 8) (c + k) ≡ onesBefore (edgesOf (entryIn l)) from + k)
+    pub behind-is : (from k c : ℕ) → rank (edgesOf (entryIn l)) from + k < ones (edgesOf (entryIn l))
+        → c ≡ ones (bitsIn (drop (from / 8) d) (from % 8)) → (from < e .bits) × (numbered d (from / 8) (c + k) ≡ rank (edgesOf (entryIn l)) from + k)
     unfolding numbered edgesAt edgeCount
     behind-is from k c h ec =
         let x : List Bool = edgesOf (entryIn l) in
         let z : 8 * (from / 8) + from % 8 ≡ from = omega arith in
         let lt : from < e .bits = elim (decLe (suc from) (e .bits)) [
           | yes y ↦ y
-          | no y ↦ absurd (let q = before-all x from (omega (arith, o .bits)) in omega (arith, h, q))
+          | no y ↦ absurd (let q = rank-all x from (omega (arith, o .bits)) in omega (arith, h, q))
         ] in
-        let y : onesBefore x from ≡ ones (bitsIn d from) =
-        ap (λ v. onesBefore v from) (sym (opens-edges l e o)) ∙ before-bits (drop (e .edges) l) (e .bits) from (omega arith) ∙ ap (λ v. ones (bitsIn v from)) (sym part) in
+        let y : rank x from ≡ ones (bitsIn d from) =
+        ap (λ v. rank v from) (sym (opens-edges l e o)) ∙ rank-bits (drop (e .edges) l) (e .bits) from (omega arith) ∙ ap (λ v. ones (bitsIn v from)) (sym part) in
         (lt, omega (arith, y, ec, ap (λ v. ones (bitsIn d v)) z, ones-more d (from / 8) (from % 8)))
 
   -- an edge that is set bit number k of byte i of the edges

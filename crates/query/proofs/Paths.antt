@@ -20,7 +20,7 @@ use Rattle.loes.proofs.Navigation.{nav-bit, nav-rank, edges-empty, record-nil}
 -- the record that a path comes to on level d
 unfoldable pub recordAt : List Bool → (ℕ → ℕ) → ℕ → ℕ
 recordAt e g zero = 0
-recordAt e g (suc d) = rank e (g d)
+recordAt e g (suc d) = rank e (suc (g d))
 
 -- the first d offsets of a path lead, each set, from one record to the next
 abbrev pub Leading : List Bool → ℕ → (ℕ → ℕ) → Type 0
@@ -42,17 +42,17 @@ split g d r h = rw (bit-odd (g d)) (omega (arith, h))
 -- ---- the offsets of a path's key are the path
 pub comes : List Bool → ℕ → Key → ℕ
 comes e r [] = r
-comes e r (b ∷ k) = comes e (rank e (2 * r + bit b)) k
+comes e r (b ∷ k) = comes e (rank e (suc (2 * r + bit b))) k
 
 offsets-snoc : (e : List Bool) (r : ℕ) (p : Key) (b : Bool) → edgeOffsets e r (p ++ b ∷ []) ≡ edgeOffsets e r p ++ (2 * comes e r p + bit b) ∷ []
 unfolding edgeOffsets comes
 offsets-snoc e r [] b = refl
-offsets-snoc e r (a ∷ p) b = ap (λ x. (2 * r + bit a) ∷ x) (offsets-snoc e (rank e (2 * r + bit a)) p b)
+offsets-snoc e r (a ∷ p) b = ap (λ x. (2 * r + bit a) ∷ x) (offsets-snoc e (rank e (suc (2 * r + bit a))) p b)
 
-comes-snoc : (e : List Bool) (r : ℕ) (p : Key) (b : Bool) → comes e r (p ++ b ∷ []) ≡ rank e (2 * comes e r p + bit b)
+comes-snoc : (e : List Bool) (r : ℕ) (p : Key) (b : Bool) → comes e r (p ++ b ∷ []) ≡ rank e (suc (2 * comes e r p + bit b))
 unfolding comes
 comes-snoc e r [] b = refl
-comes-snoc e r (a ∷ p) b = comes-snoc e (rank e (2 * r + bit a)) p b
+comes-snoc e r (a ∷ p) b = comes-snoc e (rank e (suc (2 * r + bit a))) p b
 
 pub offsets-are : (e : List Bool) (g : ℕ → ℕ) (d : ℕ) → Leading e d g → (edgeOffsets e 0 (keyOf g d) ≡ tabulate g d) × (comes e 0 (keyOf g d) ≡ recordAt e g d)
 unfolding recordAt

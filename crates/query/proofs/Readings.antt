@@ -16,12 +16,19 @@ use Rattle.loes.proofs.Tests.{lt-yes, lt-no, neither, not-false, yes-eq}
 use Rattle.query.specs.Descent.{Located}
 use Rattle.query.proofs.Ascent.{key-back}
 
+-- an accepted key has all its bits
+pub key-room : (x : Bytes) (w : ℕ) (bad : Bool) → bad ≡ (not (eqb (length x) (keyBytes w)) || unusedSet w x) → bad ≡ false → w ≤ 8 * length x
+unfolding keyBytes started
+key-room x w bad b f =
+    let z = neither (not (eqb (length x) (keyBytes w))) (unusedSet w x) (sym b ∙ f) .0 in
+    omega (arith, yes-eq (length x) (keyBytes w) (not-false _ z))
+
 module _ (e : Entry) (x : Bytes) (w : ℕ) (bad : Bool) (same : w ≡ e .width) (b : bad ≡ (not (eqb (length x) (keyBytes w)) || unusedSet w x)) where
-  refused-key : bad ≡ true → (a : Answer) → saying (refused badKey) ≡ answers (keyTest e x ∷ []) a .outcome
+  refused-key : bad ≡ true → (a : Answer) → saying (refused badKey) ≡ answers (keyTest (e .width) x ∷ []) a .outcome
   unfolding answers tested refusedOr refusal firstOf keyTest test
   refused-key t a = rw (← same, ← b, t)
 
-  answered : bad ≡ false → (a : Answer) → saying a ≡ answers (keyTest e x ∷ []) a .outcome
+  answered : bad ≡ false → (a : Answer) → saying a ≡ answers (keyTest (e .width) x ∷ []) a .outcome
   unfolding answers tested refusedOr firstOf keyTest test
   answered f a = rw (← same, ← b, f)
 
@@ -38,13 +45,6 @@ module _ (e : Entry) (x : Bytes) (w : ℕ) (bad : Bool) (same : w ≡ e .width) 
   bound-refused t = refused-key t _
 
   module _ (f : bad ≡ false) where
-    -- an accepted key has all its bits
-    pub key-room : w ≤ 8 * length x
-    unfolding keyBytes started
-    key-room =
-        let z = neither (not (eqb (length x) (keyBytes w))) (unusedSet w x) (sym b ∙ f) .0 in
-        omega (arith, yes-eq (length x) (keyBytes w) (not-false _ z))
-
     module _ (i : ℕ) (found : Bool) (at : Located e (bitsIn x w) i found) where
       pub contains-is : saying (cond found isPresent isAbsent) ≡ contains e x .outcome
       unfolding contains keyIn

@@ -8,20 +8,19 @@ use native.Mathlib.Decide.{decLe}
 use native.Mathlib.Numerals.{add-one}
 use lib.ListN.{length, drop, getD, take-append-drop}
 use Rattle.loes.specs.Bytes.{Bytes, odd, bitsIn}
-use Rattle.loes.specs.Edges.{ones, onesBefore}
-use Rattle.loes.proofs.Lists.{ones-append}
+use Rattle.loes.specs.Edges.{ones, rank}
+use Rattle.loes.proofs.Lists.{ones-append, ones-le}
 use Rattle.loes.proofs.Bytes.{length-tabulate}
 use Rattle.bits.specs.Tables.{select, bits8, placeOf}
 use Rattle.bits.proofs.Counts.{byte-more, ones-more}
-use Rattle.loes.proofs.Seven.{ones-le}
 use Rattle.loes.proofs.Bits.{length-bitsIn}
 use Rattle.query.specs.Select.{numbered, InByte}
 use Rattle.query.proofs.BitLists.{take-bits}
 
 -- ---- In a list
 -- a set bit is found by its number, the set bits before it
-pub select-at : (e : List Bool) (o : ℕ) → getD e o false ≡ true → select e (onesBefore e o) ≡ o
-unfolding select onesBefore ones
+pub select-at : (e : List Bool) (o : ℕ) → getD e o false ≡ true → select e (rank e o) ≡ o
+unfolding select rank ones
 select-at [] o h = absurd (false≢true h)
 select-at (true ∷ e) zero h = refl
 select-at (true ∷ e) (suc o) h = ap suc (select-at e o h)

@@ -8,7 +8,7 @@ use Rattle.loes.specs.Bytes.{Bytes, bit, bitsIn}
 use Rattle.loes.specs.Keys.{Key, smaller}
 use Rattle.loes.specs.Prefixes.{recordIndex}
 use Rattle.loes.specs.Edges as inSet
-use Rattle.loes.specs.Edges.{onesBefore}
+use Rattle.loes.specs.Edges.{rank}
 use Rattle.loes.specs.Entry.{Entry, keysOf}
 use Rattle.query.specs.declared.Spot.{Spot}
 
@@ -20,7 +20,7 @@ edgeFrom r found b = 2 * r + bit (found && b)
 abbrev pub DownTo : List Bool → Spot → Bool → Spot → Type 0
 DownTo e s b r =
     let o : ℕ = edgeFrom (s .record .0) (s .found) b in
-    (r .record .0 ≡ onesBefore e o + 1) × (r .found ≡ (s .found && getD e o false))
+    (r .record .0 ≡ rank e o + 1) × (r .found ≡ (s .found && getD e o false))
 
 -- a descent that has come to level d: the record that the key's prefix of d bits has or would have, and whether that prefix is found
 pub record Way (e : Entry) (key : Bytes) (d r : ℕ) (found : Bool) : Type 0 where

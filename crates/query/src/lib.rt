@@ -7,7 +7,7 @@ ghost use lib.ListN.{length, getD, drop};
 ghost use lib.Dec.{eqb, leb, ltb};
 ghost use Rattle.loes.specs.Limits.{maxWidth, maxEdges, maxBytes, blockBits, subBlockBits};
 ghost use Rattle.loes.specs.Bytes.{bit, bitsIn, byteOf, packBits, front};
-ghost use Rattle.loes.specs.Edges.{ones, onesBefore};
+ghost use Rattle.loes.specs.Edges.{ones, rank};
 ghost use Rattle.loes.specs.Entry.{keyBytes, keysOf, count, edgesOf};
 ghost use Rattle.loes.specs.Encode.{subBlockOnes};
 ghost use Rattle.loes.specs.Read.{entryIn};
@@ -97,17 +97,23 @@ fn step_down(l: &[u8], t: &[u8], e: Encoding, at: Spot, bit: bool) -> Spot
     }
 }
 
-// All levels down: the record number that the key has or would have behind the last level.
-fn descend(l: &[u8], t: &[u8], e: Encoding, key: &[u8]) -> Spot
-    requires { ⌜ Opens (now l) e × Tallies (now t) × (0 < e .bits) × (e .width ≤ 8 * length (now key)) ⌝ }
-    ensures { λ r. ⌜ Way (entryIn (now (l .entry))) (now (key .entry)) (e .width) (r .record .0) (r .found) ⌝ }
+// So many levels down along a key or a prefix: the record number that its first bits have or would have there; in the empty set there is none.
+pub fn descend(l: &[u8], t: &[u8], e: Encoding, key: &[u8], levels: usize) -> Spot
+    requires { ⌜ Opens (now l) e × Tallies (now t) × (levels ≤ e .width) × (levels ≤ 8 * length (now key)) ⌝ }
+    ensures { λ r. ⌜ Way (entryIn (now (l .entry))) (now (key .entry)) levels (r .record .0) (r .found) ⌝ }
 {
+    if e.bits == 0 {
+        return Spot {
+            record: RecordIndex(0),
+            found: false,
+        };
+    }
     let mut at = Spot {
         record: RecordIndex(0),
         found: true,
     };
     let mut d: usize = 0;
-    while d < e.width {
+    while d < levels {
         let bit = bits::bit_at(key, d);
         at = step_down(l, t, e, at, bit);
         d += 1;
@@ -125,13 +131,7 @@ fn locate(l: &[u8], t: &[u8], e: Encoding, key: &[u8]) -> Position
     requires { ⌜ Opens (now l) e × Tallies (now t) × (e .width ≤ 8 * length (now key)) ⌝ }
     ensures { λ r. ⌜ Located (entryIn (now (l .entry))) (bitsIn (now (key .entry)) (e .width)) (r .below .0) (r .found) ⌝ }
 {
-    if e.bits == 0 {
-        return Position {
-            below: MemberIndex(0),
-            found: false,
-        };
-    }
-    let at = descend(l, t, e, key);
+    let at = descend(l, t, e, key, e.width);
     let n = at.record.0 - e.bits / 2;
     let f = at.found;
     Position {
@@ -141,16 +141,19 @@ fn locate(l: &[u8], t: &[u8], e: Encoding, key: &[u8]) -> Position
 }
 
 // ---- Keys as they are given
-// Refusal 8: not t bytes, or an unused bit set.
-fn bad_key(e: Encoding, key: &[u8]) -> bool
-    requires { ⌜ (0 < e .width) × (e .width ≤ maxWidth) ⌝ }
-    ensures { λ r. ⌜ r ≡ (not (eqb (length (now (key .entry))) (keyBytes (e .width))) || unusedSet (e .width) (now (key .entry))) ⌝ }
+// Refusal 8, of a key or a prefix of m bits: not as many bytes as they take, or an unused bit set.
+pub fn bad_key(m: usize, key: &[u8]) -> bool
+    requires { ⌜ m ≤ maxWidth ⌝ }
+    ensures { λ r. ⌜ r ≡ (not (eqb (length (now (key .entry))) (keyBytes m)) || unusedSet m (now (key .entry))) ⌝ }
 {
-    let t = bits::bytes_for(e.width);
+    let t = bits::bytes_for(m);
     if key.len() != t {
         return true;
     }
-    bits::unused_set(key, t, e.width)
+    if m == 0 {
+        return false;
+    }
+    bits::unused_set(key, t, m)
 }
 
 // ---- Select
@@ -286,8 +289,8 @@ fn find_by_index(l: &[u8], t: &[u8], e: Encoding, r: RecordIndex, hint: usize) -
 
 // The set bit that has k set bits before it from an offset on.
 fn find_behind(l: &[u8], t: &[u8], e: Encoding, from: EdgeOffset, k: usize) -> BitInByte
-    requires { ⌜ Opens (now l) e × Tallies (now t) × (onesBefore (edgesOf (entryIn (now l))) (from .0) + k < ones (edgesOf (entryIn (now l)))) ⌝ }
-    ensures { λ x. ⌜ InByte (drop (e .edges) (now (l .entry))) (onesBefore (edgesOf (entryIn (now (l .entry)))) (from .0) + k) (x .byte) (x .number) ⌝ }
+    requires { ⌜ Opens (now l) e × Tallies (now t) × (rank (edgesOf (entryIn (now l))) (from .0) + k < ones (edgesOf (entryIn (now l)))) ⌝ }
+    ensures { λ x. ⌜ InByte (drop (e .edges) (now (l .entry))) (rank (edgesOf (entryIn (now (l .entry)))) (from .0) + k) (x .byte) (x .number) ⌝ }
 {
     let start = e.edges;
     let at = from.0 / 8;
@@ -309,7 +312,7 @@ fn find_edge(
     k: usize,
     hint: usize,
 ) -> BitInByte
-    requires { ⌜ Opens (now l) e × Tallies (now t) × (0 < r .0) × (r .0 - 1 < ones (edgesOf (entryIn (now l)))) × (onesBefore (edgesOf (entryIn (now l))) (from .0) + k ≡ r .0 - 1) ⌝ }
+    requires { ⌜ Opens (now l) e × Tallies (now t) × (0 < r .0) × (r .0 - 1 < ones (edgesOf (entryIn (now l)))) × (rank (edgesOf (entryIn (now l))) (from .0) + k ≡ r .0 - 1) ⌝ }
     ensures { λ x. ⌜ InByte (drop (e .edges) (now (l .entry))) (r .0 - 1) (x .byte) (x .number) ⌝ }
 {
     if k < FEW_RECORDS {
@@ -329,7 +332,7 @@ fn edge_up(
     k: usize,
     hint: usize,
 ) -> EdgeOffset
-    requires { ⌜ Opens (now l) e × Tallies (now t) × Places (now places) × (0 < r .0) × (r .0 - 1 < ones (edgesOf (entryIn (now l)))) × (onesBefore (edgesOf (entryIn (now l))) (from .0) + k ≡ r .0 - 1) ⌝ }
+    requires { ⌜ Opens (now l) e × Tallies (now t) × Places (now places) × (0 < r .0) × (r .0 - 1 < ones (edgesOf (entryIn (now l)))) × (rank (edgesOf (entryIn (now l))) (from .0) + k ≡ r .0 - 1) ⌝ }
     ensures { λ x. ⌜ x .0 ≡ select (edgesOf (entryIn (now (l .entry)))) (r .0 - 1) ⌝ }
 {
     let found = find_edge(l, t, e, r, from, k, hint);
@@ -478,7 +481,7 @@ pub fn contains_in(l: &[u8], t: &[u8], e: Encoding, key: &[u8]) -> Membership
     requires { ⌜ Opens (now l) e × Tallies (now t) ⌝ }
     ensures { λ r. ⌜ membershipOutcome r ≡ contains (entryIn (now (l .entry))) (now (key .entry)) .outcome ⌝ }
 {
-    if bad_key(e, key) {
+    if bad_key(e.width, key) {
         return Membership::Refused(BAD_KEY);
     }
     let p = locate(l, t, e, key);
@@ -493,7 +496,7 @@ pub fn index_of_in(l: &[u8], t: &[u8], e: Encoding, key: &[u8]) -> Lookup
     requires { ⌜ Opens (now l) e × Tallies (now t) ⌝ }
     ensures { λ r. ⌜ lookupOutcome r ≡ indexOf (entryIn (now (l .entry))) (now (key .entry)) .outcome ⌝ }
 {
-    if bad_key(e, key) {
+    if bad_key(e.width, key) {
         return Lookup::Refused(BAD_KEY);
     }
     let p = locate(l, t, e, key);
@@ -509,7 +512,7 @@ pub fn lower_bound_in(l: &[u8], t: &[u8], e: Encoding, key: &[u8]) -> Bound
     requires { ⌜ Opens (now l) e × Tallies (now t) ⌝ }
     ensures { λ r. ⌜ boundOutcome r ≡ lowerBound (entryIn (now (l .entry))) (now (key .entry)) .outcome ⌝ }
 {
-    if bad_key(e, key) {
+    if bad_key(e.width, key) {
         return Bound::Refused(BAD_KEY);
     }
     let p = locate(l, t, e, key);

@@ -3,7 +3,7 @@ use mathlib.Core.Path.{refl}
 use mathlib.Core.List.{flatten}
 use Rattle.loes.specs.Bytes.{tabulate, sameNumbers, started, bigEndian, bigEndians, bytesValue, numberAt, odd, bitsValue, byteOf, packBits, bitAt, bitsIn, front}
 use Rattle.loes.specs.Keys.{those, anyOf, sameKey, less, isPrefix, allKeys, members, smaller, setOf, either, without}
-use Rattle.loes.specs.Edges.{found, recordOf, level, recordBits, edgesBefore, edges, ones, onesBefore, rank, edgeOffsets, allSet, present}
+use Rattle.loes.specs.Edges.{found, recordOf, level, recordBits, edgesBefore, edges, ones, rank, edgeOffsets, allSet, present}
 use Rattle.loes.specs.Entry.{keyBytes, keysOf, count, edgesOf, edgeCount, withSet, ofWidth, wrongWidth, tooManyEdges}
 use Rattle.loes.specs.Encode.{field, blockOnes, subBlockOnes, levelEnd, widthBody, countBody, levelBody, edgeBody, blockBody, subBlockBody, encode}
 use Rattle.loes.specs.Refusals.{test, firstOf}
@@ -16,7 +16,7 @@ use Rattle.weights.specs.History.{batchAccount, postedAccount, unionAcco
 use Rattle.weights.specs.Examples.{WeightExamples}
 
 pub weight-examples : WeightExamples
-unfolding flatten tabulate sameNumbers started bigEndian bigEndians bytesValue numberAt odd bitsValue byteOf packBits bitAt bitsIn front those anyOf sameKey less isPrefix allKeys members smaller setOf either without found recordOf level recordBits edgesBefore edges ones onesBefore rank edgeOffsets allSet present keyBytes keysOf count edgesOf edgeCount withSet ofWidth wrongWidth tooManyEdges field blockOnes subBlockOnes levelEnd widthBody countBody levelBody edgeBody blockBody subBlockBody encode test firstOf start4 start5 start6 endOf widthIn edgeCountIn edgesIn entryAlong entryIn fieldTests headTests tailTests readTests readingOf read refusal refusedOr tested keyIn unusedSet keyTest batchKeys risingTests packTests batchEntry joinTests afterReading reading atPlace cut total weightOf listed outside checked listTest sumOf sumTest writesWith unionWeighted differenceWeighted post packWeightedCall postCall unionWeightedCall differenceWeightedCall batchAccount postedAccount unionAccount differenceAccount listOf changes stepTo postOn adds modelCall outcomeOf accountsOf modelFrom storeCall countRead storedWith writtenWith addedBy storeWith leftBy storeFrom storeSays modelAfter storeAfter
+unfolding flatten tabulate sameNumbers started bigEndian bigEndians bytesValue numberAt odd bitsValue byteOf packBits bitAt bitsIn front those anyOf sameKey less isPrefix allKeys members smaller setOf either without found recordOf level recordBits edgesBefore edges ones rank edgeOffsets allSet present keyBytes keysOf count edgesOf edgeCount withSet ofWidth wrongWidth tooManyEdges field blockOnes subBlockOnes levelEnd widthBody countBody levelBody edgeBody blockBody subBlockBody encode test firstOf start4 start5 start6 endOf widthIn edgeCountIn edgesIn entryAlong entryIn fieldTests headTests tailTests readTests readingOf read refusal refusedOr tested keyIn unusedSet keyTest batchKeys risingTests packTests batchEntry joinTests afterReading reading atPlace cut total weightOf listed outside checked listTest sumOf sumTest writesWith unionWeighted differenceWeighted post packWeightedCall postCall unionWeightedCall differenceWeightedCall batchAccount postedAccount unionAccount differenceAccount listOf changes stepTo postOn adds modelCall outcomeOf accountsOf modelFrom storeCall countRead storedWith writtenWith addedBy storeWith leftBy storeFrom storeSays modelAfter storeAfter
 weight-examples =
     record {
       packs = refl;

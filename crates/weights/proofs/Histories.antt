@@ -81,7 +81,7 @@ post-agrees : (a : Account) (x : Bytes) (amount : ℤ) → Sound a → postCall 
 unfolding postCall post postOn checked tested firstOf
 post-agrees a x amount s =
     rw (reading-encode (a .entry) (outputs [] (listOf a)) _ (s .valid), own-list a, weight-held a s)
-    (ap (checked (keyTest (a .entry) x ∷ test (a .entry .set key && outside (a .held key +ℤ amount)) overflow ∷ []) [] (listOf a)) (go (a .entry .set key) refl))
+    (ap (checked (keyTest (a .entry .width) x ∷ test (a .entry .set key && outside (a .held key +ℤ amount)) overflow ∷ []) [] (listOf a)) (go (a .entry .set key) refl))
   where
     key : Key
     key = keyIn (a .entry .width) x

@@ -31,25 +31,25 @@ module _ (e : Entry) (ws : Weights) (x : Bytes) (amount : ℤ) where
   post-wrong n = rw (list-fails e ws n) (unfold firstOf refusedOr refusal in refl)
 
   module _ (n : length ws ≡ count e) where
-    pub post-bad-key : (j : ℕ) → keyTest e x ≡ some j → post e ws x amount ≡ leaving (refused j) [] ws
+    pub post-bad-key : (j : ℕ) → keyTest (e .width) x ≡ some j → post e ws x amount ≡ leaving (refused j) [] ws
     unfolding post checked tested
     post-bad-key j z = rw (list-passes e ws n, z) (unfold firstOf test refusedOr refusal in refl)
 
-    pub post-absent : keyTest e x ≡ none → e .set k ≡ false → post e ws x amount ≡ leaving isAbsent [] ws
+    pub post-absent : keyTest (e .width) x ≡ none → e .set k ≡ false → post e ws x amount ≡ leaving isAbsent [] ws
     unfolding post checked tested
     post-absent z i = rw (list-passes e ws n, z, i) (unfold firstOf test refusedOr in refl)
 
-    pub post-leaves : keyTest e x ≡ none → e .set k ≡ true → outside (weightOf e ws k +ℤ amount) ≡ true → post e ws x amount ≡ leaving (refused overflow) [] ws
+    pub post-leaves : keyTest (e .width) x ≡ none → e .set k ≡ true → outside (weightOf e ws k +ℤ amount) ≡ true → post e ws x amount ≡ leaving (refused overflow) [] ws
     unfolding post checked tested
     post-leaves z i o = rw (list-passes e ws n, z, i, o) (unfold firstOf test refusedOr refusal in refl)
 
-    pub post-posts : keyTest e x ≡ none → e .set k ≡ true → outside (weightOf e ws k +ℤ amount) ≡ false
+    pub post-posts : keyTest (e .width) x ≡ none → e .set k ≡ true → outside (weightOf e ws k +ℤ amount) ≡ false
         → post e ws x amount ≡ leaving isPosted [] (set ws (smaller k (keysOf e)) (weightOf e ws k +ℤ amount))
     unfolding post checked tested
     post-posts z i o = rw (list-passes e ws n, z, i, o) (unfold firstOf test refusedOr in refl)
 
     -- the same, by the entry at the key's index
-    pub post-present : keyTest e x ≡ none → e .set k ≡ true → post e ws x amount ≡ postedAt ws (smaller k (keysOf e)) amount
+    pub post-present : keyTest (e .width) x ≡ none → e .set k ≡ true → post e ws x amount ≡ postedAt ws (smaller k (keysOf e)) amount
     unfolding postedAt
     post-present z i = go (outside (getD ws (smaller k (keysOf e)) noWeight +ℤ amount)) refl
       where
@@ -83,11 +83,11 @@ module _ (e : Entry) (x : Bytes) where
   unfolding indexOf answers tested keyTest test firstOf refusedOr
   answer-good b z y = rw (z, y)
 
-  key-bad : bad ≡ true → keyTest e x ≡ some badKey
+  key-bad : bad ≡ true → keyTest (e .width) x ≡ some badKey
   unfolding keyTest test
   key-bad z = rw z
 
-  key-good : bad ≡ false → keyTest e x ≡ none
+  key-good : bad ≡ false → keyTest (e .width) x ≡ none
   unfolding keyTest test
   key-good z = rw z
 

@@ -73,17 +73,17 @@ pub record AnswersAgree : Type 0 where
   pub postWrong : (e : Entry) (ws : Weights) (x : Bytes) (amount : ℤ) → Valid e → (length ws ≡ count e → ⊥)
       → postCall (encode e) ws x amount ≡ leaving (refused wrongList) [] ws
   -- one with a wrong key is refused next
-  pub postBadKey : (e : Entry) (ws : Weights) (x : Bytes) (amount : ℤ) (k : ℕ) → Valid e → length ws ≡ count e → keyTest e x ≡ some k
+  pub postBadKey : (e : Entry) (ws : Weights) (x : Bytes) (amount : ℤ) (k : ℕ) → Valid e → length ws ≡ count e → keyTest (e .width) x ≡ some k
       → postCall (encode e) ws x amount ≡ leaving (refused k) [] ws
   -- a key that is no member is absent, and the list stays, whatever the amount
-  pub postAbsent : (e : Entry) (ws : Weights) (x : Bytes) (amount : ℤ) → Valid e → length ws ≡ count e → keyTest e x ≡ none
+  pub postAbsent : (e : Entry) (ws : Weights) (x : Bytes) (amount : ℤ) → Valid e → length ws ≡ count e → keyTest (e .width) x ≡ none
       → e .set (keyIn (e .width) x) ≡ false → postCall (encode e) ws x amount ≡ leaving isAbsent [] ws
   -- a member whose sum leaves 32 signed bits is refused
-  pub postLeaves : (e : Entry) (ws : Weights) (x : Bytes) (amount : ℤ) → Valid e → length ws ≡ count e → keyTest e x ≡ none
+  pub postLeaves : (e : Entry) (ws : Weights) (x : Bytes) (amount : ℤ) → Valid e → length ws ≡ count e → keyTest (e .width) x ≡ none
       → let k : Key = keyIn (e .width) x in
       e .set k ≡ true → outside (weightOf e ws k +ℤ amount) ≡ true → postCall (encode e) ws x amount ≡ leaving (refused overflow) [] ws
   -- any other's sum is set at its index, and nothing else changes
-  pub posts : (e : Entry) (ws : Weights) (x : Bytes) (amount : ℤ) → Valid e → length ws ≡ count e → keyTest e x ≡ none
+  pub posts : (e : Entry) (ws : Weights) (x : Bytes) (amount : ℤ) → Valid e → length ws ≡ count e → keyTest (e .width) x ≡ none
       → let k : Key = keyIn (e .width) x in
       e .set k ≡ true → outside (weightOf e ws k +ℤ amount) ≡ false
       → postCall (encode e) ws x amount ≡ leaving isPosted [] (set ws (smaller k (keysOf e)) (weightOf e ws k +ℤ amount))

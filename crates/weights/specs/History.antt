@@ -11,7 +11,7 @@ use Rattle.loes.specs.Entry.{Entry, keysOf, count}
 use Rattle.loes.specs.Encode.{encode}
 use Rattle.loes.specs.Refusals.{overflow, Tests, test}
 use Rattle.loes.specs.Read.{Reading, rejected, opened, read}
-use Rattle.loes.specs.Model.{Answer, refused, wrote, wroteKey, tells, isPresent, isAbsent, isNone, isPosted, indexIs, rankIs, keyIn, keyTest, packTests, batchEntry, joinTests, unionEntry, differenceEntry}
+use Rattle.loes.specs.Model.{Answer, refused, wrote, wroteKey, tells, isPresent, isAbsent, isNone, isPosted, indexIs, rankIs, rangeIs, keyIn, keyTest, packTests, batchEntry, joinTests, unionEntry, differenceEntry}
 use Rattle.loes.specs.History.{atPlace, writtenWith}
 use Rattle.weights.specs.Weights.{Weights, noWeight, total, outside, listed, WeightedOutcome, leaving, checked, writesWith, sumOf, sumTest, packWeightedCall, postCall, unionWeightedCall, differenceWeightedCall}
 
@@ -92,6 +92,7 @@ changes isNone = false
 changes isPosted = true
 changes (indexIs i) = false
 changes (rankIs r) = false
+changes (rangeIs i n) = false
 
 -- the accounts become these if it does; otherwise they stay
 unfoldable pub stepTo : List Account → List Account → WeightedOutcome → AccountStep
@@ -102,7 +103,7 @@ stepTo t u o = record { outcome = o; accounts = cond (changes (o .answer)) u t }
 unfoldable pub postOn : Account → Bytes → ℤ → WeightedOutcome
 postOn a x amount =
     let k : Key = keyIn (a .entry .width) x in
-    checked (keyTest (a .entry) x ∷ test (a .entry .set k && outside (a .held k +ℤ amount)) overflow ∷ []) [] (listOf a)
+    checked (keyTest (a .entry .width) x ∷ test (a .entry .set k && outside (a .held k +ℤ amount)) overflow ∷ []) [] (listOf a)
     (cond (a .entry .set k) (leaving isPosted [] (listOf (postedAccount a k amount))) (leaving isAbsent [] (listOf a)))
 
 -- these tests, 5, 14 and the last tests; accepted: an account more, whose encoding and list are written

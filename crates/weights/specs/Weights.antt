@@ -107,7 +107,7 @@ unfoldable pub post : Entry → Weights → Bytes → ℤ → WeightedOutcome
 post e ws x amount =
     let k : Key = keyIn (e .width) x in
     let sum : ℤ = weightOf e ws k +ℤ amount in
-    checked (listTest e ws ∷ keyTest e x ∷ test (e .set k && outside sum) overflow ∷ []) [] ws
+    checked (listTest e ws ∷ keyTest (e .width) x ∷ test (e .set k && outside sum) overflow ∷ []) [] ws
     (cond (e .set k) (leaving isPosted [] (set ws (smaller k (keysOf e)) sum)) (leaving isAbsent [] ws))
 
 -- ---- The calls on bytes: the encodings' refusals first. Public functions promise these.

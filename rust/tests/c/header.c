@@ -19,11 +19,16 @@ static int is(loes_answer answer, uint32_t refusal, uint32_t found, uint64_t val
     return answer.refusal == refusal && answer.found == found && answer.value == value;
 }
 
+/* Whether a range has these fields. */
+static int spans(loes_range range, uint32_t refusal, uint64_t first, uint64_t count) {
+    return range.refusal == refusal && range.first.index == first && range.count == count;
+}
+
 int main(void) {
     const uint8_t batch[] = {0x00, 0x60, 0xC0};
     uint8_t set[48], key[LOES_MAX_KEY_BYTES];
 
-    REQUIRE(sizeof(loes_answer) == 16 && sizeof(loes_opened) == 24);
+    REQUIRE(sizeof(loes_answer) == 16 && sizeof(loes_opened) == 24 && sizeof(loes_range) == 24);
     REQUIRE(sizeof(loes_cursor) == (1 + LOES_CURSOR_OFFSETS) * sizeof(uint64_t));
     REQUIRE(sizeof(loes_member_index) == sizeof(uint64_t) && sizeof(loes_edge_offset) == sizeof(uint64_t));
 
@@ -45,8 +50,19 @@ int main(void) {
     REQUIRE(is(loes_index_of(set, sizeof set, key, 1), 0, 0, 0));
     REQUIRE(is(loes_lower_bound(set, sizeof set, key, 1), 0, 0, 0));
     REQUIRE(is(loes_contains(set, sizeof set, key, 2), LOES_BAD_KEY, 0, 0));
-    REQUIRE(is(loes_rank(set, sizeof set, (loes_edge_offset){9}), 0, 1, 7));
-    REQUIRE(is(loes_rank(set, sizeof set, (loes_edge_offset){12}), LOES_OUT_OF_RANGE, 0, 0));
+    REQUIRE(is(loes_rank(set, sizeof set, (loes_edge_offset){0}), 0, 1, 0));
+    REQUIRE(is(loes_rank(set, sizeof set, (loes_edge_offset){10}), 0, 1, 7));
+    REQUIRE(is(loes_rank(set, sizeof set, (loes_edge_offset){12}), 0, 1, 8));
+    REQUIRE(is(loes_rank(set, sizeof set, (loes_edge_offset){13}), LOES_OUT_OF_RANGE, 0, 0));
+    key[0] = 0x80;
+    REQUIRE(spans(loes_prefix(set, sizeof set, 0, key, 0), 0, 0, 3));
+    REQUIRE(spans(loes_prefix(set, sizeof set, 1, key, 1), 0, 2, 1));
+    REQUIRE(spans(loes_prefix(set, sizeof set, 2, key, 1), 0, 2, 0));
+    REQUIRE(spans(loes_prefix(set, sizeof set, 1, key, 2), LOES_BAD_KEY, 0, 0));
+    key[0] = 0xA0;
+    REQUIRE(spans(loes_prefix(set, sizeof set, 2, key, 1), LOES_BAD_KEY, 0, 0));
+    REQUIRE(spans(loes_prefix(set, sizeof set, 4, key, 0), LOES_OUT_OF_RANGE, 0, 0));
+    REQUIRE(spans(loes_prefix(set, 47, 4, key, 0), LOES_TRUNCATED, 0, 0));
     REQUIRE(is(loes_key_at(set, sizeof set, (loes_member_index){2}, key, sizeof key), 0, 1, 1) && key[0] == 0xC0);
 
     REQUIRE(is(loes_union(set, sizeof set, set, sizeof set, out, sizeof out), 0, 1, 48) && memcmp(out, set, 48) == 0);

@@ -112,6 +112,10 @@ pub fn check_read<S: Subject>(rng: &mut Rng, bytes: &[u8], read: &Result<Laid, u
                     }
                 }
             }
+            for prefix in some_prefixes(rng, laid, times) {
+                let checked = bytes.len() < 2_000 || rng.one_in(bytes.len() / 1_000);
+                check_prefix::<S>(bytes, &opened, laid, &prefix, checked);
+            }
         }
         (Err(number), Err(right)) => {
             assert_eq!(number, *right, "open {}", shown(bytes));
@@ -136,6 +140,9 @@ pub fn check_refused<S: Subject>(rng: &mut Rng, bytes: &[u8], number: u64) {
     ] {
         let room = rng.below(40);
         same(rng, room, &what, |_| Err(number), |out| S::ask(bytes, &question, out));
+    }
+    for (prefix_bits, prefix) in [(0, vec![]), (0, rng.bytes(1)), (9, vec![0; 2]), (u64::MAX, vec![]), (rng.next(), rng.bytes(3))] {
+        assert_eq!(S::prefix(bytes, prefix_bits, &prefix), Err(number), "{}", what());
     }
     let right = Set::new(3, [vec![0x60]]).lay().encode();
     let room = rng.below(100);
@@ -302,7 +309,7 @@ pub fn check_history<S: Subject>(rng: &mut Rng, calls: usize) {
         let mut right = rng.bytes(room + 2 * GUARD);
         let mut got = right.clone();
         let (right_out, out) = (&mut right[GUARD..GUARD + room], &mut got[GUARD..GUARD + room]);
-        match rng.below(10) {
+        match rng.below(12) {
             0 | 1 => {
                 let set = random_set(rng, width, 60);
                 let (width, batch) = if rng.one_in(3) { damaged_batch(rng, &set) } else { (width as u64, batch_of(&set)) };
@@ -325,6 +332,13 @@ pub fn check_history<S: Subject>(rng: &mut Rng, calls: usize) {
                 assert_eq!(said, answer, "union {union} of {} and {}", shown(x), shown(y));
                 store.extend(answer.ok().flatten().map(|n| out[..n as usize].to_vec()));
                 model.extend(added);
+            }
+            5 | 6 => {
+                let Some(laid) = model.get(place) else { continue };
+                let asked = some_prefixes(rng, laid, 1);
+                let Prefix { bits, bytes } = rng.pick(&asked);
+                let said = S::prefix(&store[place], *bits, bytes);
+                assert_eq!(said, laid.prefix(*bits, bytes), "prefix {bits} {bytes:02X?} of {}", shown(&store[place]));
             }
             _ => {
                 let Some(laid) = model.get(place) else { continue };

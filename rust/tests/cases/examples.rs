@@ -17,7 +17,7 @@ pub fn check_examples<S: Subject>() {
     assert_eq!(p2, P2);
     assert_eq!(numbers(&p2), Ok([3, 3, 12]));
     // P3, P4
-    assert_eq!(S::ask(&p2, &Question::Rank(9), &mut []), Ok(Some(7)));
+    assert_eq!(S::ask(&p2, &Question::Rank(10), &mut []), Ok(Some(7)));
     assert_eq!(S::ask(&p2, &Question::IndexOf(vec![0x60]), &mut []), Ok(Some(1)));
     assert_eq!(S::ask(&p2, &Question::Contains(vec![0xA0]), &mut []), Ok(None));
     assert_eq!(S::ask(&p2, &Question::Contains(vec![0xC0]), &mut []), Ok(Some(1)));
@@ -43,6 +43,8 @@ pub fn check_examples<S: Subject>() {
     let all = packed::<S>(3, &[0x00, 0x20, 0x40, 0x60, 0x80, 0xA0, 0xC0, 0xE0]).unwrap();
     assert_eq!((numbers(&all), &all[30..32]), (Ok([3, 8, 14]), &[0xFF, 0xFC][..]));
     // others
+    let rank = |bytes: &[u8], offset| S::ask(bytes, &Question::Rank(offset), &mut []);
+    assert_eq!((rank(&p2, 0), rank(&p2, 12), rank(&p2, 13), rank(&p1, 0)), (Ok(Some(0)), Ok(Some(8)), Err(9), Ok(Some(0))));
     for (width, answer) in [(0, Err(4)), (257, Err(4)), (1, Ok([1, 0, 0])), (256, Ok([256, 0, 0]))] {
         assert_eq!(packed::<S>(width, &[]).and_then(|bytes| numbers(&bytes)), answer);
     }

@@ -6,7 +6,9 @@ mod chance;
 mod checks;
 mod damage;
 mod examples;
+mod faults;
 mod lent;
+mod prefix;
 mod runs;
 mod sets;
 mod weights;
@@ -15,14 +17,16 @@ pub use chance::*;
 pub use checks::*;
 pub use damage::*;
 pub use examples::*;
+pub use faults::*;
 pub use lent::*;
+pub use prefix::*;
 pub use runs::*;
 pub use sets::*;
 pub use weights::*;
 
-use crate::plain::{Answer, Key, Laid};
+use crate::plain::{Answer, Key, Laid, RangeAnswer};
 
-/// The five questions.
+/// The five questions of document 01. The sixth, of a prefix, has an answer of its own kind.
 #[derive(Clone, Debug)]
 pub enum Question {
     Contains(Key),
@@ -47,6 +51,10 @@ pub trait Subject {
     fn ask(l: &[u8], question: &Question, out: &mut [u8]) -> Answer;
     /// Behind the check.
     fn ask_opened(opened: &Self::Opened<'_>, question: &Question, out: &mut [u8]) -> Answer;
+    /// Checks the encoding first.
+    fn prefix(l: &[u8], prefix_bits: u64, prefix: &[u8]) -> RangeAnswer;
+    /// Behind the check.
+    fn prefix_opened(opened: &Self::Opened<'_>, prefix_bits: u64, prefix: &[u8]) -> RangeAnswer;
     /// With the state after the step.
     fn advance(l: &[u8], state: u64, offsets: &mut [u64], out: &mut [u8]) -> (Answer, u64);
     fn advance_opened(opened: &Self::Opened<'_>, state: u64, offsets: &mut [u64], out: &mut [u8]) -> (Answer, u64);
@@ -175,6 +183,41 @@ macro_rules! differential_tests {
         #[test]
         fn large_encodings_damaged() {
             cases::rounds("large_encodings_damaged", 20, cases::large_damaged::<$subject>);
+        }
+
+        #[test]
+        fn ranks_at_every_offset() {
+            cases::rounds("ranks_at_every_offset", 1, cases::ranks::<$subject>);
+        }
+
+        #[test]
+        fn prefix_examples() {
+            cases::check_prefix_examples::<$subject>();
+        }
+
+        #[test]
+        fn prefixes_of_many_shapes() {
+            cases::rounds("prefixes_of_many_shapes", 250, cases::prefix_shapes::<$subject>);
+        }
+
+        #[test]
+        fn prefix_laws() {
+            cases::rounds("prefix_laws", 200, cases::prefix_laws::<$subject>);
+        }
+
+        #[test]
+        fn every_prefix_of_small_widths() {
+            cases::rounds("every_prefix_of_small_widths", 1, cases::every_prefix::<$subject>);
+        }
+
+        #[test]
+        fn prefix_boundaries() {
+            cases::rounds("prefix_boundaries", 1, cases::prefix_boundaries::<$subject>);
+        }
+
+        #[test]
+        fn prefix_refusals_in_order() {
+            cases::rounds("prefix_refusals_in_order", 4, cases::prefix_refusals::<$subject>);
         }
 
         #[test]

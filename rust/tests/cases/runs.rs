@@ -1,7 +1,7 @@
 //! The tests: what each round does.
 
 use super::*;
-use crate::plain::{self, key_len, Laid, Set};
+use crate::plain::{self, key_len, Answer, Laid, Set};
 
 /// Pack, open, ask, walk.
 pub fn shapes<S: Subject>(rng: &mut Rng) {
@@ -157,6 +157,74 @@ pub fn check_members<S: Subject>(laid: &Laid) {
         assert_eq!((answer, &key), (Ok(Some(key.len() as u64)), member), "key {i}");
         assert_eq!(S::ask_opened(&opened, &Question::IndexOf(member.clone()), &mut []), Ok(Some(i as u64)));
     }
+}
+
+/// The rank at every offset from 0 to the end, which is how many set bits were before it, and at none above.
+fn check_ranks<S: Subject>(laid: &Laid) {
+    let bytes = laid.encode();
+    let (opened, [_, n, b]) = S::open(&bytes).unwrap();
+    let checked = |offset: u64| bytes.len() < 400 || [0, 1, b].contains(&offset);
+    let check = |offset: u64, right: Answer| {
+        let question = Question::Rank(offset);
+        assert_eq!(S::ask_opened(&opened, &question, &mut []), right, "rank {offset} of {b}");
+        if checked(offset) {
+            assert_eq!(S::ask(&bytes, &question, &mut []), right, "rank {offset} of {b}, with the check");
+        }
+    };
+    let mut before = 0;
+    for (offset, set) in laid.edges.iter().enumerate() {
+        check(offset as u64, Ok(Some(before)));
+        before += u64::from(*set);
+    }
+    check(b, Ok(Some(before)));
+    // one for each record but the first, and one for each member
+    assert_eq!(before + u64::from(n > 0), b / 2 + n);
+    for above in [b + 1, b + 2, b + 7, b + 8, b + 512, b + 65_536, 1 << 32, (1 << 32) + b, 1 << 63, (1 << 63) + b, u64::MAX] {
+        check(above, Err(9));
+    }
+}
+
+/// The edge at offset o leads to record rank(o + 1), and a member's index is that of its last edge, less the set bits of the levels
+/// above, less 1: the ranks against the walk, both the subject's own.
+fn check_edges<S: Subject>(laid: &Laid) {
+    let bytes = laid.encode();
+    let (opened, [width, n, _]) = S::open(&bytes).unwrap();
+    let rank = |offset: u64| S::ask_opened(&opened, &Question::Rank(offset), &mut []).unwrap().unwrap();
+    let (mut state, mut offsets, mut key) = (0, vec![0; 256], vec![0; key_len(laid.width())]);
+    let last = width as usize - 1;
+    let above = if last == 0 { 0 } else { laid.ends[last - 1] as u64 };
+    for index in 0..n {
+        state = S::advance_opened(&opened, state, &mut offsets, &mut key).1;
+        for d in 0..last {
+            assert_eq!(rank(offsets[d] + 1), offsets[d + 1] / 2, "level {d} of member {index}");
+        }
+        assert_eq!(rank(offsets[last] + 1) - rank(above) - 1, index);
+    }
+}
+
+/// Empty, small and full sets, and where a byte, a sub-block or a block is just filled; and the longest edge sequence.
+pub fn ranks<S: Subject>(rng: &mut Rng) {
+    for width in WIDTHS {
+        let mut sets = vec![Set::new(width, []), Set::new(width, [random_key(rng, width)])];
+        sets.extend((0..3).map(|_| random_set(rng, width, 60)));
+        if width <= 9 {
+            sets.push(full_set(width));
+        }
+        for laid in sets.into_iter().map(Set::lay) {
+            check_ranks::<S>(&laid);
+            check_edges::<S>(&laid);
+        }
+    }
+    for bits in (24..80).step_by(2).chain([510, 512, 514, 1_022, 1_024, 1_026, 65_534, 65_536, 65_538, 131_072, 131_074]) {
+        let width = if bits < 5_000 { 12 } else { *rng.pick(&[18, 256]) };
+        let laid = set_with_records(rng, width, bits / 2).lay();
+        assert_eq!(laid.bits(), bits);
+        check_ranks::<S>(&laid);
+        check_edges::<S>(&laid);
+    }
+    let laid = half_set(rng.below(2)).lay();
+    assert_eq!(laid.bits(), plain::MAX_EDGES);
+    check_ranks::<S>(&laid);
 }
 
 /// Levels of just so many records that a search begins elsewhere or a level is counted otherwise, and levels of many sub-blocks

@@ -242,25 +242,6 @@ pub fn check_refused_weighted<S: Subject>(rng: &mut Rng, bytes: &[u8], number: u
     assert_eq!(list, kept, "a join changed a list that it reads");
 }
 
-/// The faults of a call that a mask names, by their places in the call's order.
-struct Faults(usize);
-
-impl Faults {
-    fn has(&self, place: usize) -> bool {
-        self.0 >> place & 1 == 1
-    }
-
-    /// The refusal of the first of them, if there is one.
-    fn first(&self, order: &[u64]) -> Option<u64> {
-        (0..order.len()).find(|place| self.has(*place)).map(|place| order[place])
-    }
-
-    /// That refusal, or the right result written.
-    fn write(&self, order: &[u64], right: &Weighed, out: &mut [u8], list: &mut [i32]) -> Answer {
-        self.first(order).map_or_else(|| right.write(out, list), Err)
-    }
-}
-
 /// Every choice of faults of each call: the refusal of the first in order, and nothing changes.
 pub fn weighted_refusals<S: Subject>(rng: &mut Rng) {
     pack_refusals::<S>(rng);

@@ -1,4 +1,4 @@
-//! The reference: document 01 read sentence by sentence, with plain sets of keys and nothing clever.
+//! The reference: document 01, with document 02's slip 2, read sentence by sentence, with plain sets of keys and nothing clever.
 //!
 //! A set is a `BTreeSet` of keys. Its levels are found by taking every key's prefixes; its bytes are put down field by field.
 //! Bytes are read by following their edges to a set and encoding that set again. A cursor is a place in the list of paths.
@@ -10,10 +10,12 @@ mod weights;
 
 pub use weights::*;
 
+use std::cmp::Ordering;
 use std::collections::{BTreeMap, BTreeSet};
 
 pub type Key = Vec<u8>;
 pub type Answer = Result<Option<u64>, u64>;
+pub type RangeAnswer = Result<PrefixRange, u64>;
 
 pub const MAX_WIDTH: usize = 256;
 pub const MAX_EDGES: usize = 524_280;
@@ -46,6 +48,13 @@ pub fn prefix(key: &[u8], d: usize) -> Key {
 /// A bit behind the width is set.
 pub fn unused_bit_set(width: usize, key: &[u8]) -> bool {
     (width..8 * key.len()).any(|i| bit(key, i))
+}
+
+/// How many keys' own first bits are smaller than a prefix, and how many begin with it.
+#[derive(Clone, Copy, Debug, PartialEq, Eq)]
+pub struct PrefixRange {
+    pub first: u64,
+    pub count: u64,
 }
 
 #[derive(Clone, Debug, PartialEq, Eq)]
@@ -202,15 +211,32 @@ impl Laid {
         Ok((smaller < self.count()).then_some(smaller as u64))
     }
 
+    /// The set bits strictly before an offset, 0 to b.
     pub fn rank(&self, offset: u64) -> Answer {
-        unless(offset >= self.bits() as u64, 9)?;
-        Ok(Some(ones(&self.edges[..=offset as usize]) as u64))
+        unless(offset > self.bits() as u64, 9)?;
+        Ok(Some(ones(&self.edges[..offset as usize]) as u64))
     }
 
     pub fn key_at(&self, index: u64, out: &mut [u8]) -> Answer {
         unless(index >= self.count() as u64, 9)?;
         let key = self.set.keys.iter().nth(index as usize).unwrap();
         write(key, out)
+    }
+
+    /// 9, then 8; then each key's own first bits, one by one, beside those that are given.
+    pub fn prefix(&self, prefix_bits: u64, given: &[u8]) -> RangeAnswer {
+        unless(prefix_bits > self.width() as u64, 9)?;
+        let p = prefix_bits as usize;
+        unless(given.len() != key_len(p) || unused_bit_set(p, given), 8)?;
+        let mut range = PrefixRange { first: 0, count: 0 };
+        for key in &self.set.keys {
+            match (0..p).map(|i| bit(key, i)).cmp((0..p).map(|i| bit(given, i))) {
+                Ordering::Less => range.first += 1,
+                Ordering::Equal => range.count += 1,
+                Ordering::Greater => (),
+            }
+        }
+        Ok(range)
     }
 
     // ---- The cursor
@@ -311,16 +337,13 @@ fn number(bytes: &[u8]) -> usize {
     bytes.iter().fold(0, |n, byte| 256 * n + usize::from(*byte))
 }
 
-/// The keys of m bits whose edges, followed, are all set.
+/// The keys of m bits whose edges, followed, are all set: the edge at offset o leads to record rank(o + 1).
 fn follow(width: usize, edges: &[bool]) -> BTreeSet<Key> {
-    let mut rank = 0;
-    let ranks: Vec<usize> = edges
-        .iter()
-        .map(|set| {
-            rank += usize::from(*set);
-            rank
-        })
-        .collect();
+    // for each offset from 0 on, the set bits before it
+    let mut ranks = vec![0];
+    for (o, set) in edges.iter().enumerate() {
+        ranks.push(ranks[o] + usize::from(*set));
+    }
     let mut here: Vec<(Key, usize)> = Vec::new();
     if !edges.is_empty() {
         here.push((vec![0; key_len(width)], 0));
@@ -335,7 +358,7 @@ fn follow(width: usize, edges: &[bool]) -> BTreeSet<Key> {
                     if side == 1 {
                         set_bit(&mut key, d);
                     }
-                    next.push((key, ranks[o]));
+                    next.push((key, ranks[o + 1]));
                 }
             }
         }

@@ -9,12 +9,12 @@ use lib.Seq.{getD-set-same, getD-set-other}
 use native.Mathlib.Decide.{decLe}
 use borrow.Author.Needs.{needs}
 use Rattle.loes.specs.Bytes.{Bytes, tabulate, bitsIn}
-use Rattle.loes.specs.Edges.{ones, onesBefore}
+use Rattle.loes.specs.Edges.{ones, rank}
 use Rattle.loes.specs.Prefixes.{roots, ends}
 use Rattle.loes.proofs.Ends.{ends-grow}
-use Rattle.loes.proofs.Seven.{before-le}
+use Rattle.loes.proofs.Lists.{rank-le}
 use Rattle.loes.proofs.Bits.{length-bitsIn}
-use Rattle.bits.proofs.Counts.{before-bits}
+use Rattle.bits.proofs.Counts.{rank-bits}
 use Rattle.build.specs.Writing.{Counts}
 use Rattle.build.proofs.Shape.{roots-le, held-ends, ends-le, enough, held-count}
 use Rattle.build.proofs.level_ends.Statement.{statement}
@@ -27,7 +27,7 @@ endAt l b d = ends (roots b) (bitsIn l b) d
 abbrev Inv-loop : tie.InvT-loop
 Inv-loop edges t m b ends₀ c seen₀ n₀ d₀ ends seen n d =
     ((d ≤ m) × (length ends ≡ length ends₀) × (c ≡ roots b))
-    × (Counts edges seen × (seen .bytes ≡ endAt edges b d / 8) × (n ≡ onesBefore (bitsIn edges b) (endAt edges b d)))
+    × (Counts edges seen × (seen .bytes ≡ endAt edges b d / 8) × (n ≡ rank (bitsIn edges b) (endAt edges b d)))
     × ((j : ℕ) → j < d → getD ends j 0 ≡ endAt edges b (suc j))
 
 abbrev μ-loop : tie.MeasureT-loop
@@ -56,7 +56,7 @@ roots-of-requires : tie.Need-roots-of-requires Inv-loop μ-loop
 roots-of-requires c κs = tt
 
 loop-holds : tie.Need-loop-holds Inv-loop μ-loop
-unfolding ends onesBefore bitsIn tabulate ones
+unfolding ends rank bitsIn tabulate ones
 loop-holds c = ((omega arith, refl, c .roots-of .ensures .0), (refl, refl, refl), λ j k. absurd (omega arith))
 
 add-end : tie.Need-add-end Inv-loop μ-loop
@@ -107,8 +107,8 @@ loop-again c =
     let b : ℕ = start a .args .b in
     let e : ℕ = 2 * (a .before .roots-of .result + a .loop .n) in
     let z : a .loop .d + 1 ≡ suc (a .loop .d) = add-one (a .loop .d) in
-    let n : c .ones-at .result ≡ onesBefore (bitsIn (edges a) b) (endAt (edges a) b (suc (a .loop .d))) =
-    c .ones-at .ensures ∙ ap (λ k. ones (bitsIn (edges a) k)) (next a q) ∙ sym (before-bits (edges a) b (endAt (edges a) b (suc (a .loop .d))) (fits a q)) in (
+    let n : c .ones-at .result ≡ rank (bitsIn (edges a) b) (endAt (edges a) b (suc (a .loop .d))) =
+    c .ones-at .ensures ∙ ap (λ k. ones (bitsIn (edges a) k)) (next a q) ∙ sym (rank-bits (edges a) b (endAt (edges a) b (suc (a .loop .d))) (fits a q)) in (
       (omega arith, length-set (a .loop .ends) (a .loop .d) e ∙ a .loop .inv .0 .1, a .loop .inv .0 .2),
       (c .before .count-to .ensures .0, rw z (c .before .count-to .ensures .1 ∙ ap (λ k. k / 8) (next a q)), rw z n),
       one-more (endAt (edges a) b) (a .loop .ends) (a .loop .d) e (omega (arith, a .loop .inv .0 .1, start a .pre .3)) (next a q) (a .loop .inv .2),
@@ -119,13 +119,13 @@ done : (c : tie.After-loop Inv-loop μ-loop) → c .before .loop .d ≡ start (c
 done c = omega arith
 
 total : (c : tie.After-loop Inv-loop μ-loop)
-    → c .before .loop .n ≡ onesBefore (bitsIn (edges (c .before)) (start (c .before) .args .b)) (endAt (edges (c .before)) (start (c .before) .args .b) (start (c .before) .args .m))
+    → c .before .loop .n ≡ rank (bitsIn (edges (c .before)) (start (c .before) .args .b)) (endAt (edges (c .before)) (start (c .before) .args .b) (start (c .before) .args .m))
 total c = rw (done c) at (c .before .loop .inv .1 .2)
 
 add-result : tie.Need-add-result Inv-loop μ-loop
 add-result c =
     let b = start (c .before) .args .b in
-    omega (arith, total c, before-le (bitsIn (edges (c .before)) b) (endAt (edges (c .before)) b (start (c .before) .args .m)) .1, length-bitsIn (edges (c .before)) b, roots-le b, c .before .loop .inv .0 .2, start (c .before) .pre .0 .few)
+    omega (arith, total c, rank-le (bitsIn (edges (c .before)) b) (endAt (edges (c .before)) b (start (c .before) .args .m)) .1, length-bitsIn (edges (c .before)) b, roots-le b, c .before .loop .inv .0 .2, start (c .before) .pre .0 .few)
 
 sub-result : tie.Need-sub-result Inv-loop μ-loop
 sub-result c =

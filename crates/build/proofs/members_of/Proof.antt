@@ -4,11 +4,11 @@ use native.Mathlib.Omega.{arith}
 use mathlib.Core.Path.{_≡_, refl, sym, ap, _∙_}
 use Prim.Native.Nat.{ℕ, _≤_}
 use Rattle.loes.specs.Bytes.{Bytes, tabulate, bitsIn}
-use Rattle.loes.specs.Edges.{ones, onesBefore}
+use Rattle.loes.specs.Edges.{ones, rank}
 use Rattle.loes.specs.Prefixes.{roots, ends}
-use Rattle.loes.proofs.Seven.{before-le}
+use Rattle.loes.proofs.Lists.{rank-le}
 use Rattle.loes.proofs.Bits.{length-bitsIn}
-use Rattle.bits.proofs.Counts.{before-bits}
+use Rattle.bits.proofs.Counts.{rank-bits}
 use Rattle.build.proofs.Shape.{roots-le, ends-last, enough, held-count}
 use Rattle.build.proofs.members_of.Statement.{statement}
 use Rattle.build.proofs.members_of.Tie as tie
@@ -37,11 +37,11 @@ module _ (r : tie.After-roots-of) where
   abbrev b : ℕ
   b = s .args .b
 
-  all : counted .ones-at .result ≡ onesBefore (bitsIn l b) (ends (roots b) (bitsIn l b) (s .args .m))
-  all = counted .ones-at .ensures ∙ sym (before-bits l b b (omega arith)) ∙ ap (onesBefore (bitsIn l b)) (sym (ends-last (s .args .m) b l (s .pre .0)))
+  all : counted .ones-at .result ≡ rank (bitsIn l b) (ends (roots b) (bitsIn l b) (s .args .m))
+  all = counted .ones-at .ensures ∙ sym (rank-bits l b b (omega arith)) ∙ ap (rank (bitsIn l b)) (sym (ends-last (s .args .m) b l (s .pre .0)))
 
   few : counted .ones-at .result ≤ b
-  few = omega (arith, all, before-le (bitsIn l b) (ends (roots b) (bitsIn l b) (s .args .m)) .1, length-bitsIn l b)
+  few = omega (arith, all, rank-le (bitsIn l b) (ends (roots b) (bitsIn l b) (s .args .m)) .1, length-bitsIn l b)
 
 add-result : tie.Need-add-result
 add-result c = record { fits = omega (arith, few c, roots-le (b c), c .roots-of .ensures .0, s c .pre .0 .few) }

@@ -11,14 +11,14 @@ use borrow.Author.Needs.{needs}
 use borrow.Rule.Slice.PartMut.{putMid}
 use Rattle.loes.specs.Limits.{subBlockBits, headBytes, subBlockEntry}
 use Rattle.loes.specs.Bytes.{Bytes, started, tabulate, bigEndian, bigEndians, bitsIn, front}
-use Rattle.loes.specs.Edges.{ones, onesBefore}
+use Rattle.loes.specs.Edges.{ones, rank}
 use Rattle.loes.specs.Encode.{field, blockOnes, subBlockOnes}
 use Rattle.loes.specs.Read.{edgeBytes, bodyAt}
 use Rattle.loes.proofs.Bytes.{length-bigEndian, length-bigEndians}
 use Rattle.encoding.proofs.Index.{sub-block-start}
 use Rattle.build.specs.Writing.{Counts, maxBlocks, Based}
 use Rattle.build.proofs.Front.{put-at, before-stays, front-start, length-front, numbers-room, numbers-more, numbers-field}
-use Rattle.build.proofs.Shape.{before-value, first-sub}
+use Rattle.build.proofs.Shape.{rank-value, first-sub}
 use Rattle.build.proofs.put_sub_blocks.Statement.{statement}
 use Rattle.build.proofs.put_sub_blocks.Tie as tie
 
@@ -213,8 +213,8 @@ module _ (c : tie.After-block-base Inv-loop μ-loop) where
   counts : Counts (l loop) (c .before .count-to .result)
   counts = rw (same-edges loop) at (c .before .count-to .ensures .0)
 
-  counted : c .before .count-to .result .ones ≡ onesBefore e (512 * loop .loop .j)
-  counted = counts ∙ before-value (l loop) (start loop .args .b) (loop .loop .j) (c .before .count-to .result .bytes) (c .before .count-to .ensures .1) (omega (arith, few (known loop)))
+  counted : c .before .count-to .result .ones ≡ rank e (512 * loop .loop .j)
+  counted = counts ∙ rank-value (l loop) (start loop .args .b) (loop .loop .j) (c .before .count-to .result .bytes) (c .before .count-to .ensures .1) (omega (arith, few (known loop)))
 
   based : c .block-base .result ≡ blockOnes e (loop .loop .j / 128)
   based =

@@ -8,7 +8,7 @@ use native.Mathlib.Omega.{arith}
 use denote.Ref.{now}
 use Prim.Native.Nat.{_-_, _≤_, _+_}
 use Rattle.loes.specs.Read.{entryIn}
-use Rattle.loes.proofs.Seven.{before-le}
+use Rattle.loes.proofs.Lists.{rank-le}
 use Rattle.encoding.proofs.Opened.{opens-valid, opens-room}
 use Rattle.cursor.proofs.Checks.{was-false, PathChecked, check-first, check-below, check-next, check-fail, check-all}
 use Rattle.cursor.proofs.is_path.Statement.{statement}
@@ -60,7 +60,7 @@ add-r c =
     let l = c .before .before .before .before .before in
     let s = start l in
     let z = check-below _ _ _ (on (c .before)) in
-    omega (arith, z, c .ones-before .ensures, before-le (edgesOf (entryIn (now (s .args .l)))) (getD (now (s .args .path)) (l .loop .d) 0) .0, s .pre .0 .bits, opens-room _ _ (s .pre .0) .few)
+    omega (arith, z, c .ones-before .ensures, rank-le (edgesOf (entryIn (now (s .args .l)))) (getD (now (s .args .path)) (l .loop .d) 0) .0, s .pre .0 .bits, opens-room _ _ (s .pre .0) .few)
 
 add-d : tie.Need-add-d Inv-loop μ-loop
 add-d c = let l = c .before .before .before .before .before in omega (arith, opens-room _ _ (start l .pre .0) .narrow, c .before .before .before .before .loop-test .taken)

@@ -3,9 +3,9 @@ use mathlib.Core.Path.{_≡_, _∙_}
 use Prim.Native.Nat.{ℕ, _+_, _-_, _*_, _/_, _%_, _^_, _≤_, _<_}
 use native.Mathlib.Omega.{arith}
 use lib.ListN.{length, getD}
-use Rattle.loes.specs.Edges.{ones, onesBefore}
+use Rattle.loes.specs.Edges.{ones, rank}
 use Rattle.loes.specs.Encode.{blockOnes}
-use Rattle.loes.proofs.Seven.{before-le}
+use Rattle.loes.proofs.Lists.{rank-le}
 use Rattle.bits.proofs.Counts.{shift-small}
 use Rattle.encoding.specs.Opened.{edgesAt}
 use Rattle.encoding.proofs.Opened.{room-at, length-edgesAt}
@@ -49,10 +49,10 @@ unfolding blockOnes
 block-le c =
     let s = start (else1 c) in
     let e = edgesAt (now (s .args .l)) (s .args .e) in
-    omega (arith, block-is c, before-le e (65536 * (last (else1 c) / 65536)) .1, length-edgesAt (now (s .args .l)) (s .args .e), s .pre .0 .few)
+    omega (arith, block-is c, rank-le e (65536 * (last (else1 c) / 65536)) .1, length-edgesAt (now (s .args .l)) (s .args .e), s .pre .0 .few)
 
 returns : tie.Need-returns
-unfolding onesBefore ones
+unfolding rank ones
 returns c = rw (c .if1 .taken)
 
 sub-last : tie.Need-sub-last

@@ -4,11 +4,11 @@ use mathlib.Core.Bool.{Bool, false≢true}
 use mathlib.Core.List.{List}
 use Prim.Native.Nat.{ℕ, suc, _+_, _-_, _*_, _≤_, _<_, min}
 use native.Mathlib.Omega.{arith}
-use Rattle.loes.specs.Edges.{onesBefore}
+use Rattle.loes.specs.Edges.{rank}
 use Rattle.loes.specs.Prefixes.{roots, ends}
 use Rattle.loes.specs.Read.{levelAt}
 use Rattle.loes.proofs.Ends.{ends-grow}
-use Rattle.loes.proofs.Seven.{before-le}
+use Rattle.loes.proofs.Lists.{rank-le}
 use Rattle.encoding.specs.Opened.{edgesAt}
 use Rattle.encoding.proofs.Opened.{length-edgesAt}
 use Rattle.encoding.proofs.Pass.{below-next}
@@ -35,7 +35,7 @@ small c = start (c .before) .pre .0 .narrow
 
 -- the set bits before the level, and its end
 counted : (c : tie.After-ones-on Inv-loop μ-loop) → let d = c .before .before in let a = start (d .before) .args in
-    c .ones-on .result ≡ onesBefore (edges d) (ends (roots (a .e .bits)) (edges d) (d .before .loop .d))
+    c .ones-on .result ≡ rank (edges d) (ends (roots (a .e .bits)) (edges d) (d .before .loop .d))
 counted c =
     let d = c .before .before in
     let h = d .before .loop in
@@ -47,7 +47,7 @@ few c =
     let d = c .before .before in
     let s = start (d .before) in
     let a = s .args in (
-      omega (arith, counted c, before-le (edges d) (ends (roots (a .e .bits)) (edges d) (d .before .loop .d)) .1, length-edgesAt (now (a .l)) (a .e), s .pre .0 .few),
+      omega (arith, counted c, rank-le (edges d) (ends (roots (a .e .bits)) (edges d) (d .before .loop .d)) .1, length-edgesAt (now (a .l)) (a .e), s .pre .0 .few),
       d .before .before .roots-of .ensures .1,
     )
 

@@ -1,6 +1,6 @@
 use denote.Ref.{now}
 use mathlib.Core.Path.{ap, _∙_}
-use Rattle.loes.specs.Edges.{onesBefore}
+use Rattle.loes.specs.Edges.{rank}
 use Rattle.encoding.proofs.Opened.{opens-room, opens-counted, opens-edges}
 use Rattle.encoding.proofs.ones_before.Statement.{statement}
 use Rattle.encoding.proofs.ones_before.Tie as tie
@@ -15,7 +15,7 @@ returns : tie.Need-returns
 returns c =
     let s = c .before .before .before in
     let a = s .args in
-    c .indexed-ones .ensures ∙ ap (λ x. onesBefore x (a .o .0)) (opens-edges (now (a .l)) (a .e) (s .pre .0))
+    c .indexed-ones .ensures ∙ ap (λ x. rank x (a .o .0)) (opens-edges (now (a .l)) (a .e) (s .pre .0))
 
 pub ones-before-spec : {M : Type 1} → statement M
 ones-before-spec = tie.close (tie.spec indexed-ones-requires returns)

@@ -3,8 +3,8 @@ use mathlib.Core.Path.{_≡_}
 use Prim.Native.Nat.{ℕ, _+_, _-_, _/_, _%_, _^_, _≤_, _<_}
 use native.Mathlib.Omega.{arith}
 use lib.ListN.{length, getD}
-use Rattle.loes.specs.Edges.{onesBefore}
-use Rattle.loes.proofs.Seven.{before-le}
+use Rattle.loes.specs.Edges.{rank}
+use Rattle.loes.proofs.Lists.{rank-le}
 use Rattle.bits.proofs.Counts.{shift-small}
 use Rattle.encoding.specs.Opened.{edgesAt}
 use Rattle.encoding.proofs.Opened.{room-at, length-edgesAt}
@@ -56,12 +56,12 @@ first-part c = shift-small (firstByte (begun c)) (8 - begun c .args .from .0 % 8
 few : (c : tie.Start) → c .args .n ≤ 524280
 few c =
     let a = c .args in
-    omega (arith, c .pre .5, before-le (edgesAt (now (a .l)) (a .e)) (a .from .0) .1, length-edgesAt (now (a .l)) (a .e), c .pre .0 .few)
+    omega (arith, c .pre .5, rank-le (edgesAt (now (a .l)) (a .e)) (a .from .0) .1, length-edgesAt (now (a .l)) (a .e), c .pre .0 .few)
 
 -- what is added up
 sum-is : (c : tie.After-shared-slice-known4) → let a = begun c .args in
     a .n + (counted c .tally-bytes .result + getD (now (a .t)) (lastPart (begun c)) 0)
-    ≡ onesBefore (edgesAt (now (a .l)) (a .e)) (a .o .0) + getD (now (a .t)) (firstPart (begun c)) 0
+    ≡ rank (edgesAt (now (a .l)) (a .e)) (a .o .0) + getD (now (a .t)) (firstPart (begun c)) 0
 sum-is c =
     let s = begun c in
     let a = s .args in

@@ -1,7 +1,7 @@
 use denote.Ref.{now}
 use mathlib.Core.Path.{ap, _∙_}
 use native.Mathlib.Omega.{arith}
-use Rattle.loes.specs.Edges.{onesBefore}
+use Rattle.loes.specs.Edges.{rank}
 use Rattle.encoding.specs.Opened.{edgesAt}
 use borrow.Author.Needs.{needs}
 use Rattle.encoding.proofs.ones_on.Statement.{statement}
@@ -19,7 +19,7 @@ returns c = search needs
 returns-2 : tie.Need-returns-2
 returns-2 c =
     let s = c .before .before .before .before .before .before in
-    s .pre .5 ∙ ap (onesBefore (edgesAt (now (s .args .l)) (s .args .e))) (omega arith)
+    s .pre .5 ∙ ap (rank (edgesAt (now (s .args .l)) (s .args .e))) (omega arith)
 
 ones-near-requires : tie.Need-ones-near-requires
 ones-near-requires c κs = search needs

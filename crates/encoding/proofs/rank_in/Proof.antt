@@ -6,14 +6,11 @@ use Rattle.encoding.proofs.rank_in.Tie as tie
 returns : tie.Need-returns
 returns c = rank-out _ _ _ (c .before .before .before .before .before .pre .0) (c .if1 .taken)
 
-add-t7 : tie.Need-add-t7
-add-t7 c = search needs
-
 ones-before-requires : tie.Need-ones-before-requires
 ones-before-requires c κs = search needs
 
 returns-2 : tie.Need-returns-2
-returns-2 c = rank-told _ _ _ _ (c .before .before .before .before .before .before .before .pre .0) (c .before .before .if1 .left) (c .ones-before .ensures)
+returns-2 c = rank-told _ _ _ _ (c .before .before .before .before .before .before .pre .0) (c .before .if1 .left) (c .ones-before .ensures)
 
 pub rank-in-spec : {M : Type 1} → statement M
-rank-in-spec = tie.close (tie.spec returns add-t7 ones-before-requires returns-2)
+rank-in-spec = tie.close (tie.spec returns ones-before-requires returns-2)

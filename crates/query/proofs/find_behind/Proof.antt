@@ -4,13 +4,12 @@ use native.Mathlib.Omega.{arith}
 use denote.Ref.{now}
 use lib.ListN.{length, take, drop, getD, length-drop}
 use Rattle.loes.specs.Entry.{edgesOf, edgeCount}
-use Rattle.loes.specs.Edges.{onesBefore}
+use Rattle.loes.specs.Edges.{rank}
 use Rattle.loes.specs.Read.{entryIn}
-use Rattle.loes.proofs.Seven.{ones-le}
 use Rattle.bits.proofs.Counts.{shift-small}
 use Rattle.encoding.proofs.Opened.{opens-room, room-at}
 use Rattle.query.specs.Select.{numbered}
-use Rattle.loes.proofs.Lists.{rest-is}
+use Rattle.loes.proofs.Lists.{rest-is, ones-le}
 use Rattle.query.proofs.Index.{before-is, behind-is, select-is}
 use borrow.Author.Needs.{needs}
 use Rattle.query.proofs.find_behind.Statement.{statement}
@@ -37,7 +36,7 @@ index c = let a = c .before .before .before .before .before .args in shift-small
 begins : (c : tie.After-shared-slice-known4) → let a = start c .args in
     numbered (take (length (now (a .l)) - a .e .edges) (drop (a .e .edges) (now (a .l)))) (a .from .0 / 8)
     (getD (now (a .t)) (getD (now (a .l)) (a .e .edges + a .from .0 / 8) 0 / 2 ^ (8 - a .from .0 % 8)) 0 + a .k)
-    ≡ onesBefore (edgesOf (entryIn (now (a .l)))) (a .from .0) + a .k
+    ≡ rank (edgesOf (entryIn (now (a .l)))) (a .from .0) + a .k
 begins c =
     let s = start c in
     let a = s .args in

@@ -1,6 +1,5 @@
 use Prim.Native.Nat.{_≤_, _*_}
 use Rattle.loes.specs.Encode.{blockOnes, subBlockOnes}
-use Rattle.loes.proofs.Seven.{ones-le}
 use Rattle.query.specs.Select.{numbered}
 use lib.ListN.{length, take, drop, length-drop}
 use Prim.Native.Nat.{_-_}
@@ -11,7 +10,7 @@ use Prim.Native.Nat.{_<_}
 use Rattle.loes.specs.Entry.{edgesOf, edgeCount}
 use Rattle.loes.specs.Read.{entryIn}
 use Rattle.encoding.proofs.Opened.{opens-room}
-use Rattle.loes.proofs.Lists.{rest-is}
+use Rattle.loes.proofs.Lists.{rest-is, ones-le}
 use Rattle.query.proofs.Index.{block-at, sub-block-at, start-is, select-is}
 use borrow.Author.Needs.{needs}
 use Rattle.query.proofs.find_by_index.Statement.{statement}

@@ -4,10 +4,10 @@ use denote.Ref.{now}
 use Prim.Native.Nat.{_+_}
 use mathlib.Core.Bool.{_&&_, false}
 use lib.ListN.{getD}
-use Rattle.loes.specs.Edges.{onesBefore}
+use Rattle.loes.specs.Edges.{rank}
 use Rattle.loes.specs.Entry.{edgesOf}
 use Rattle.loes.specs.Read.{entryIn}
-use Rattle.loes.proofs.Seven.{before-le}
+use Rattle.loes.proofs.Lists.{rank-le}
 use Rattle.encoding.proofs.Opened.{opens-room}
 use Rattle.query.specs.Descent.{edgeFrom}
 use borrow.Author.Needs.{needs}
@@ -27,13 +27,13 @@ edge-set-requires c κs = let s = c .before .before .before .before in (s .pre .
 add-t10 : tie.Need-add-t10
 add-t10 c =
     let s = c .before .before .before .before .before in
-    omega (arith, c .before .ones-before .ensures, before-le (edgesOf (entryIn (now (s .args .l)))) (c .before .before .edge-from .result .0) .0, c .before .before .edge-from .ensures, s .pre .2, opens-room _ _ (s .pre .0) .few)
+    omega (arith, c .before .ones-before .ensures, rank-le (edgesOf (entryIn (now (s .args .l)))) (c .before .before .edge-from .result .0) .0, c .before .before .edge-from .ensures, s .pre .2, opens-room _ _ (s .pre .0) .few)
 
 returns : tie.Need-returns
 returns c =
     let s = c .before .before .before .before .before in
     let z = c .before .before .edge-from .ensures in (
-      ap (λ x. x + 1) (c .before .ones-before .ensures ∙ ap (onesBefore (edgesOf (entryIn (now (s .args .l))))) z),
+      ap (λ x. x + 1) (c .before .ones-before .ensures ∙ ap (rank (edgesOf (entryIn (now (s .args .l))))) z),
       c .edge-set .ensures ∙ ap (λ x. s .args .at .found && getD (edgesOf (entryIn (now (s .args .l)))) x false) z,
     )
 

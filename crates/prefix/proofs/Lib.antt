@@ -1,0 +1,3 @@
+-- The theory of cuts.
+pub mod Cuts
+pub mod Answers
