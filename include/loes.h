@@ -31,8 +31,8 @@
  *     is there, as long as the length says. What is lent as `const` is only read; what is lent for
  *     output or to be changed shares no byte with anything else lent to the same call. Two encodings
  *     may be the same bytes, and two lists the same entries.
- *   - What a call works with is on the stack: allow it 384 KiB (measured: a join some 335,000
- *     bytes at most, every other call less than 8 KiB).
+ *   - What a call works with is on the stack: allow it 704 KiB (measured: a split some 664,000
+ *     bytes, every other join some 335,000 at most, every other call less than 8 KiB).
  *
  * Link with target/staticlib/libcapi.a, made by `rt staticlib capi`.
  */
@@ -120,6 +120,14 @@ typedef struct loes_range {
     uint64_t count;          /* how many members begin with the prefix */
 } loes_range;
 
+/* The lengths of the three encodings of a split. */
+typedef struct loes_lengths {
+    uint32_t refusal;     /* 0: not refused; else a loes_refusal, and the others are 0 */
+    uint64_t both;        /* of the keys in both sets */
+    uint64_t only_first;  /* of the keys in the first set but not in the second */
+    uint64_t only_second; /* of the keys in the second set but not in the first */
+} loes_lengths;
+
 /* A place in a walk over the members; all 0 is before the first. */
 typedef struct loes_cursor {
     uint64_t state;
@@ -132,7 +140,7 @@ typedef struct loes_cursor {
  * front 1 (head), 2, 3, 1 (body), with 4 after field 1 and 5 after field 3; then 6, then 7. */
 loes_opened loes_open(const uint8_t *encoding, size_t length);
 
-/* ---- Building: found, if not refused, and the value is the length of the encoding at the front of `out` ---- */
+/* ---- Building: found, if not refused, and the value is the length of the encoding at the front of `out`; loes_split answers with three lengths ---- */
 
 /* The encoding of the keys of a batch: keys of `width` bits laid end to end in rising order, equal
  * neighbours counting once. Refusals: 4, 10, then key by key 11 and 12, then 5, 14. */
@@ -145,6 +153,17 @@ loes_answer loes_union(const uint8_t *first, size_t first_length, const uint8_t 
 /* The keys in the first set but not in the second. Refusals: as loes_union. */
 loes_answer loes_difference(const uint8_t *first, size_t first_length, const uint8_t *second, size_t second_length,
                             uint8_t *out, size_t room);
+
+/* Three sets, each encoding at the front of its own buffer: the keys in both sets, the keys in the
+ * first but not in the second, the keys in the second but not in the first. Every key of either set is
+ * in exactly one of them; a set split with itself gives itself and twice the empty set of its width.
+ * Answers with the three lengths in that order. Room enough is, for `both` and `only_first`, the
+ * first's length, for `only_second` the second's, as no part of a set has a longer encoding;
+ * LOES_MAX_BYTES always. Refusals: as loes_union (5 cannot arise); 14 is for any of the three, and
+ * all three keep their values. */
+loes_lengths loes_split(const uint8_t *first, size_t first_length, const uint8_t *second, size_t second_length,
+                        uint8_t *both, size_t both_room, uint8_t *only_first, size_t only_first_room,
+                        uint8_t *only_second, size_t only_second_room);
 
 /* ---- Questions. Refusals: those of opening, then those named, in their order ---- */
 

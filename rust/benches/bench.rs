@@ -21,7 +21,7 @@ fn main() {
         return;
     }
     println!(
-        "Times in ns: pack, union and difference, also weighted, for each key of either operand, step, next and iteration for each key, the others for each call."
+        "Times in ns: pack, union and difference, also weighted, and split for each key of either operand, step, next and iteration for each key, the others for each call."
     );
     println!(
         "A row with less: what a join with lists takes more than the same without, measured in turns; a dash where the join without takes more than {NOISY} ns a key, as so little is noise there. Pairs, BTreeMap and HashMap stand beside calls with lists."
@@ -40,6 +40,11 @@ fn main() {
     }
     println!("\n## Prefix beside index_of, in turns: in brackets the ratio to it\n");
     beside_index_of(tables.iter().chain(&clustered));
+    println!("\n## Split beside difference and beside three differences, in turns; in ns for each key of either operand\n");
+    println!(
+        "Three differences: of the first and the second, of the second and the first, of the first and what only it has. The last three columns make three sets anew.\n"
+    );
+    beside_difference(tables.iter().chain(&clustered));
     // many, so that a processor does not learn by heart what is at random
     memberships(&clustered_keys::<4>(500, 256));
     println!("\n## Growth with the width\n");
@@ -205,6 +210,7 @@ struct Table {
     count: usize,
     bits: usize,
     rows: Vec<Row>,
+    splits: Splits,
 }
 
 /// A sorted array, tested as pack tests its batch.
@@ -343,6 +349,8 @@ fn table<const T: usize>(keys: Vec<[u8; T]>, shape: &'static str) -> Table {
             Some(least(n, || ha.difference(&hb).copied().collect::<HashSet<_>>())),
         ],
     );
+    let splits = Splits::measure(&a, &b, n);
+    row("split", splits.split, splits.others.map(Some));
     // several at a time: in a small set one takes little longer than the clock
     let opened_again = [&bytes[..]; 16];
     row(
@@ -482,7 +490,91 @@ fn table<const T: usize>(keys: Vec<[u8; T]>, shape: &'static str) -> Table {
         [Some(least(n, || all(keys.iter()))), Some(least(n, || all(tree.iter()))), Some(least(n, || all(hash.iter())))],
     );
     rows.extend(weighted_rows(&keys, &asked, &joins));
-    Table { shape, width, count: n, bits: opened.bits, rows }
+    Table { shape, width, count: n, bits: opened.bits, rows, splits }
+}
+
+// ---- Split
+
+/// The keys in both, only in the first, only in the second.
+fn split_arrays<const T: usize>(a: &[[u8; T]], b: &[[u8; T]]) -> [Vec<[u8; T]>; 3] {
+    let (mut i, mut j) = (0, 0);
+    let (mut only_first, mut only_second) = (Vec::with_capacity(a.len()), Vec::with_capacity(b.len()));
+    let mut both = Vec::with_capacity(a.len().min(b.len()));
+    while i < a.len() && j < b.len() {
+        let (x, y) = (a[i], b[j]);
+        let order = x.cmp(&y);
+        match order {
+            Ordering::Less => only_first.push(x),
+            Ordering::Equal => both.push(x),
+            Ordering::Greater => only_second.push(y),
+        }
+        i += usize::from(order != Ordering::Greater);
+        j += usize::from(order != Ordering::Less);
+    }
+    only_first.extend(&a[i..]);
+    only_second.extend(&b[j..]);
+    [both, only_first, only_second]
+}
+
+/// The same by three differences of encodings.
+fn three_differences(a: &[u8], b: &[u8], outs: &mut [Vec<u8>; 3], difference: impl Fn(&[u8], &[u8], &mut [u8]) -> usize) {
+    let [both, only_first, only_second] = outs;
+    let length = difference(a, b, only_first);
+    difference(b, a, only_second);
+    difference(a, &only_first[..length], both);
+}
+
+/// A split beside a difference of the same sets, beside three, and beside a sorted array, `BTreeSet` and `HashSet`.
+struct Splits {
+    split: Times,
+    difference: Times,
+    three_differences: Times,
+    others: [f64; 3],
+}
+
+impl Splits {
+    /// For each of so many keys that both have together.
+    fn measure<const T: usize>(a: &[[u8; T]], b: &[[u8; T]], n: usize) -> Splits {
+        let (pa, pb) = (packed(a), packed(b));
+        let mut out = vec![0u8; 68_695];
+        let (mut parts, mut by_three) = ([(); 3].map(|()| out.clone()), [(); 3].map(|()| out.clone()));
+        #[cfg(feature = "linked")]
+        let (mut room, mut part_rooms, mut rooms_by_three) = (out.clone(), parts.clone(), by_three.clone());
+        let [split, difference, three_differences] = compare_all!(
+            n,
+            || {
+                let [both, only_first, only_second] = &mut part_rooms;
+                loes::split(&pa, &pb, both, only_first, only_second)
+            },
+            || {
+                let [both, only_first, only_second] = &mut parts;
+                plain_rust::split(&pa, &pb, both, only_first, only_second)
+            };
+            || loes::difference(&pa, &pb, &mut room),
+            || plain_rust::difference(&pa, &pb, &mut out);
+            || three_differences(&pa, &pb, &mut rooms_by_three, |a, b, out| loes::difference(a, b, out).unwrap()),
+            || three_differences(&pa, &pb, &mut by_three, |a, b, out| plain_rust::difference(a, b, out).unwrap())
+        );
+        let right = split_arrays(a, b).map(|keys| packed(&keys));
+        assert!(parts.iter().zip(&right).all(|(part, right)| part.starts_with(right)), "a split is that of sorted arrays");
+        assert!(parts == by_three, "a split and three differences write the same");
+        #[cfg(feature = "linked")]
+        assert!((part_rooms, rooms_by_three) == (parts, by_three), "the library and plain Rust write the same");
+        let (ta, tb): (BTreeSet<_>, BTreeSet<_>) = (a.iter().copied().collect(), b.iter().copied().collect());
+        let (ha, hb): (HashSet<_>, HashSet<_>) = (a.iter().copied().collect(), b.iter().copied().collect());
+        let others = [
+            least(n, || split_arrays(a, b)),
+            least(n, || {
+                let [only_first, only_second] = [ta.difference(&tb), tb.difference(&ta)].map(|keys| keys.copied().collect());
+                [ta.intersection(&tb).copied().collect::<BTreeSet<_>>(), only_first, only_second]
+            }),
+            least(n, || {
+                let [only_first, only_second] = [ha.difference(&hb), hb.difference(&ha)].map(|keys| keys.copied().collect());
+                [ha.intersection(&hb).copied().collect::<HashSet<_>>(), only_first, only_second]
+            }),
+        ];
+        Splits { split, difference, three_differences, others }
+    }
 }
 
 // ---- Weights
@@ -772,6 +864,30 @@ fn beside_index_of<'a>(tables: impl Iterator<Item = &'a Table>) {
         let cells = prefixes.iter().map(|row| format!("{} ({:.2})", cell(Some(time(row))), time(row) / index_of));
         let keys = format!("{} {}", table.count, table.shape);
         line([table.width.to_string(), keys, cell(Some(index_of))].into_iter().chain(cells));
+    }
+}
+
+/// One line for each table: what a split takes, and what one would do without it.
+fn beside_difference<'a>(tables: impl Iterator<Item = &'a Table>) {
+    let names = ["width", "keys", "split", "plain Rust", "ratio", "difference", "split ÷ difference", "three differences"];
+    let others = ["three differences ÷ split", "sorted array", "BTreeSet", "HashSet"];
+    line(names.into_iter().chain(others).map(String::from));
+    rule(names.len() + others.len() - 1);
+    let quotient = |x: Option<f64>, y: Option<f64>| x.zip(y).map_or("–".to_string(), |(x, y)| format!("{:.2}", x / y));
+    for Table { shape, width, count, splits, .. } in tables {
+        let time = |(library, plain): Times| library.or(plain);
+        let (split, difference, three) = (time(splits.split), time(splits.difference), time(splits.three_differences));
+        let times = [
+            cell(splits.split.0),
+            cell(splits.split.1),
+            quotient(splits.split.0, splits.split.1),
+            cell(difference),
+            quotient(split, difference),
+            cell(three),
+            quotient(three, split),
+        ];
+        let sizes = [width.to_string(), format!("{count} {shape}")];
+        line(sizes.into_iter().chain(times).chain(splits.others.map(|time| cell(Some(time)))));
     }
 }
 

@@ -1,6 +1,6 @@
 /* Every call of several builds of the library, taken in turns in one program on the same inputs: for each call the least time
  * of each build, in nanoseconds, and its ratio to the first one's. Prints markdown; ends with 1 if two results differ. Calls
- * with weights are left out if a build has none; prefix is left out, as older builds have none.
+ * with weights are left out if a build has none; prefix and split are left out, as older builds have none.
  *
  *     beside REPETITIONS BUILD.so...
  */

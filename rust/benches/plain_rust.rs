@@ -816,9 +816,29 @@ const fn runs() -> [u16; 256] {
     let mut table = [0; 256];
     let mut i = 1;
     while i < 256 {
-        let e = table[i / 32 * 16 + i % 16 / 2];
-        let pair = (i / 16 % 2 + i % 2 * 2) as u16;
-        table[i] = if pair > 0 { e + e % 256 * 3 + 512 + pair } else { e };
+        table[i] = longer(table[i / 32 * 16 + i % 16 / 2], i / 16 % 2 + i % 2 * 2);
+        i += 1;
+    }
+    table
+}
+
+/// Such an entry with a pair of bits behind, if it is not 0.
+const fn longer(entry: u16, pair: usize) -> u16 {
+    if pair > 0 {
+        entry + entry % 256 * 3 + 512 + pair as u16
+    } else {
+        entry
+    }
+}
+
+/// Entry x: such an entry, of the four records of x that have an edge.
+static EDGED: [u16; 256] = edged();
+
+const fn edged() -> [u16; 256] {
+    let mut table = [0; 256];
+    let mut i = 1;
+    while i < 256 {
+        table[i] = longer(table[i / 4], i % 4);
         i += 1;
     }
     table
@@ -848,10 +868,19 @@ impl Run {
         Run { records: (self.records << other.bits) + other.records, bits: self.bits + other.bits }
     }
 
+    /// Of an entry of a table.
+    fn of(entry: u16) -> Run {
+        Run { records: u64::from(entry % 256), bits: usize::from(entry / 256) }
+    }
+
     /// The pairs of bits of x and y that are not 0.
-    fn of(x: usize, y: usize) -> Run {
-        let h = RUNS[16 * (x & 15) + (y & 15)];
-        Run { records: u64::from(h % 256), bits: usize::from(h / 256) }
+    fn pairs(x: usize, y: usize) -> Run {
+        Run::of(RUNS[16 * (x & 15) + (y & 15)])
+    }
+
+    /// The records of a byte that have an edge.
+    fn edged(x: u8) -> Run {
+        Run::of(EDGED[usize::from(x)])
     }
 }
 
@@ -887,7 +916,7 @@ fn seal(l: &mut [u8], k: usize) {
 fn merge_four(f: usize, x: usize, y: usize) -> (u8, Run) {
     let u = usize::from(SPREAD[f & 0xF00 | x]);
     let v = usize::from(SPREAD[f << 4 & 0xF00 | y]);
-    ((u | v) as u8, Run::of(u / 16, v / 16).and(Run::of(u % 16, v % 16)))
+    ((u | v) as u8, Run::pairs(u / 16, v / 16).and(Run::pairs(u % 16, v % 16)))
 }
 
 /// Records taken of the first and of the second, and the queue's end.
@@ -963,71 +992,159 @@ fn count_edges(x: usize) -> usize {
     (f + (f >> 12)) & 15
 }
 
+// Tests of an entry: a record has an edge, or only the first set has a member, only the second, both.
+const HAS_EDGE: usize = 0;
+const ONLY_FIRST: usize = 1;
+const ONLY_SECOND: usize = 2;
+const BOTH: usize = 3;
+
 /// Two records in x, less the edges whose entries in v, taken in order, fail a test.
 fn mark_half<const TEST: usize>(x: usize, v: usize) -> usize {
     PARTS[usize::from(SPREAD[256 * (x & 15) + v])] as usize >> (16 + 4 * TEST) & 15
 }
 
-/// Whole bytes of the first i records marked, while their entries, before entry `child`, stand behind them and not before `from`.
-fn mark_bytes<const TEST: usize>(queue: &mut [u8], mut i: usize, mut child: usize, from: usize) -> (usize, usize) {
-    while i > 0 {
-        let y = usize::from(queue[i / 4 - 1]);
-        let edges = count_edges(y);
-        if child < edges + i.max(from) {
+/// Sixteen records from record i on.
+fn sixteen(l: &[u8], i: usize) -> u32 {
+    let at = i / 4;
+    (u64::from_be_bytes(l[at..at + 8].try_into().unwrap()) << (2 * (i % 4)) >> 32) as u32
+}
+
+/// The lower bit of each of sixteen records.
+const LOWER: u32 = 0x5555_5555;
+
+/// Whether none of sixteen records has two edges.
+fn no_double(x: u32) -> bool {
+    x & x >> 1 & LOWER == 0
+}
+
+/// Sixteen records of one edge each, less those whose entry has none.
+fn keep_singles(x: u32, entries: u32) -> u32 {
+    x & 3 * ((entries | entries >> 1) & LOWER)
+}
+
+/// Such records put from byte j on: their entries are the marked records from `child` on.
+fn put_singles(marks: &mut [u8], j: usize, x: u32, child: usize) {
+    let kept = keep_singles(x, sixteen(marks, child));
+    marks[j..j + 4].copy_from_slice(&kept.to_be_bytes());
+}
+
+/// The four records of a byte, less the edges whose entries, taken in order, fail a test.
+fn marked_byte<const TEST: usize>(x: u8, entries: u64) -> u8 {
+    let x = usize::from(x);
+    let high = mark_half::<TEST>(x / 16, four(entries, 0));
+    let low = mark_half::<TEST>(x, four(entries, count_edges(x / 16)));
+    (high << 4 | low) as u8
+}
+
+/// Record x, less the edges whose entries, from entry `child` on, are not kept: the first r by the marks, members by a test.
+fn marked_record<const TEST: usize>(queue: &[u8], marks: &[u8], r: usize, x: u8, child: usize) -> u8 {
+    let kept = |i: usize| u8::from(if i < r { record(marks, i) > 0 } else { usize::from(record(queue, i)) == TEST });
+    let (first, second) = (x >> 1, x & 1);
+    (first & kept(child)) << 1 | second & kept(child + usize::from(first))
+}
+
+/// Records that are marked from the last to the first: they lose the edges under which no member is kept.
+trait Marks {
+    /// The records, as they were until they are marked, and behind them the members' flags.
+    fn queue(&self) -> &[u8];
+    /// Sixteen records x of one edge each, from byte j on: their entries are the records from `child` on.
+    fn mark_singles(&mut self, j: usize, x: u32, child: usize);
+    /// The four records x of byte j: their entries are the records from `child` on.
+    fn mark_byte(&mut self, j: usize, x: u8, child: usize);
+    /// The same, if their entries are members.
+    fn mark_last_byte(&mut self, j: usize, x: u8, child: usize);
+    /// Record x, number i of r: its entries are those from `child` on.
+    fn mark_record(&mut self, r: usize, i: usize, x: u8, child: usize);
+}
+
+/// The last of the first i records marked, sixteen at a time, while none has two edges and their entries, the records before
+/// `child`, stand behind them.
+fn mark_blocks(marks: &mut impl Marks, mut i: usize, mut child: usize) -> (usize, usize) {
+    while i > 0 && child >= i + 16 {
+        let x = number4(&marks.queue()[i / 4 - 4..i / 4]) as u32;
+        if !no_double(x) {
             break;
         }
-        child -= edges;
-        let entries = eight(queue, child);
-        let high = mark_half::<TEST>(y / 16, four(entries, 0));
-        let low = mark_half::<TEST>(y, four(entries, count_edges(y / 16)));
-        queue[i / 4 - 1] = (high << 4 | low) as u8;
-        i -= 4;
+        (i, child) = (i - 16, child - 16);
+        marks.mark_singles(i / 4, x, child);
     }
     (i, child)
 }
 
-/// Record i marked: its entries are before entry `child`. Tells where they begin.
-fn mark_record(queue: &mut [u8], r: usize, w: u8, i: usize, mut child: usize) -> usize {
-    let x = record(queue, i);
-    let mut kept = 0;
-    for side in [1, 2] {
-        if x & side != 0 {
-            child -= 1;
-            let entry = record(queue, child);
-            let keep = if child < r { entry > 0 } else { entry == w };
-            kept |= if keep { side } else { 0 };
+/// Whole bytes of the first i records marked, while their entries, before entry `child`, stand behind them and not before `from`;
+/// of those whose entries are records, whole blocks where they can be.
+fn mark_bytes<const LAST: bool>(marks: &mut impl Marks, mut i: usize, mut child: usize, from: usize) -> (usize, usize) {
+    while i > 0 {
+        if !LAST && i % 16 == 0 {
+            (i, child) = mark_blocks(marks, i, child);
+            if i == 0 {
+                break;
+            }
+        }
+        let x = marks.queue()[i / 4 - 1];
+        let edges = count_edges(usize::from(x));
+        if child < edges + i.max(from) {
+            break;
+        }
+        (i, child) = (i - 4, child - edges);
+        if LAST {
+            marks.mark_last_byte(i / 4, x, child);
+        } else {
+            marks.mark_byte(i / 4, x, child);
         }
     }
-    put_record(queue, i, kept);
-    child
+    (i, child)
 }
 
-/// The records less the edges under which no member's flags are w, backwards, in their place.
-fn mark<const W: usize>(merged: &mut Merged) {
-    let (queue, r) = (&mut merged.queue[..], merged.records);
-    let (mut i, mut child) = (r, r + merged.members);
+/// All r records, behind which are n members: by blocks and bytes where it can be.
+fn mark(mut marks: impl Marks, r: usize, n: usize) {
+    let (mut i, mut child) = (r, r + n);
     while i > 0 {
         if i % 4 == 0 {
-            (i, child) = if child > r { mark_bytes::<W>(queue, i, child, r) } else { mark_bytes::<0>(queue, i, child, 0) };
+            (i, child) =
+                if child > r { mark_bytes::<true>(&mut marks, i, child, r) } else { mark_bytes::<false>(&mut marks, i, child, 0) };
         }
         if i > 0 {
             i -= 1;
-            child = mark_record(queue, r, W as u8, i, child);
+            let x = record(marks.queue(), i);
+            child -= x.count_ones() as usize;
+            marks.mark_record(r, i, x, child);
         }
     }
 }
 
-/// The records of a byte that have an edge.
-fn byte_run(x: u8) -> Run {
-    let f = PARTS[usize::from(x)] as usize;
-    Run::of(f >> 8 & 15, f >> 4 & 15)
+/// The members that only the first has are kept: the marks are made in the records' own place.
+struct InPlace<'a> {
+    queue: &'a mut [u8],
+}
+
+impl Marks for InPlace<'_> {
+    fn queue(&self) -> &[u8] {
+        self.queue
+    }
+
+    fn mark_singles(&mut self, j: usize, x: u32, child: usize) {
+        put_singles(self.queue, j, x, child);
+    }
+
+    fn mark_byte(&mut self, j: usize, x: u8, child: usize) {
+        self.queue[j] = marked_byte::<HAS_EDGE>(x, eight(self.queue, child));
+    }
+
+    fn mark_last_byte(&mut self, j: usize, x: u8, child: usize) {
+        self.queue[j] = marked_byte::<ONLY_FIRST>(x, eight(self.queue, child));
+    }
+
+    fn mark_record(&mut self, r: usize, i: usize, x: u8, child: usize) {
+        put_record(self.queue, i, marked_record::<ONLY_FIRST>(self.queue, self.queue, r, x, child));
+    }
 }
 
 /// The first r records that have an edge, moved together. Tells how many.
 fn compact(queue: &[u8], r: usize, out: &mut [u8]) -> usize {
     let mut bits = 0;
-    for bytes in queue[..r / 4].chunks_exact(4) {
-        let run = byte_run(bytes[0]).and(byte_run(bytes[1])).and(byte_run(bytes[2]).and(byte_run(bytes[3])));
+    for [x, y, z, w] in queue[..r / 4].as_chunks().0 {
+        let run = Run::edged(*x).and(Run::edged(*y)).and(Run::edged(*z).and(Run::edged(*w)));
         append(out, bits, run);
         bits += run.bits;
     }
@@ -1068,12 +1185,17 @@ fn merge_opened(a: &[u8], e: &Opened, b: &[u8], f: &Opened) -> (Merged, [usize; 
     (merged, ends)
 }
 
-/// The first set's edges where no member's flags but the first's are set, and its count; the levels' ends become its own.
-fn subtract(e: &Opened, merged: &mut Merged, ends: &mut [usize]) -> (Vec<u8>, usize) {
-    mark::<1>(merged);
-    let mut edges = vec![0u8; e.bits.div_ceil(8) + 8];
-    let records = compact(&merged.queue, merged.records, &mut edges);
-    let count = level_ends(&edges, records, &mut ends[..e.width]);
+/// The first r records that have an edge, moved together, and their levels' ends. Tells the count.
+fn collect(queue: &[u8], r: usize, edges: &mut [u8], ends: &mut [usize]) -> usize {
+    let records = compact(queue, r, edges);
+    level_ends(edges, records, ends)
+}
+
+/// The edges of the members that only the first set has, and their count; the levels' ends become theirs.
+fn remainder(first: &Opened, merged: &mut Merged, ends: &mut [usize]) -> (Vec<u8>, usize) {
+    mark(InPlace { queue: &mut merged.queue }, merged.records, merged.members);
+    let mut edges = vec![0u8; first.bits.div_ceil(8) + 8];
+    let count = collect(&merged.queue, merged.records, &mut edges, &mut ends[..first.width]);
     (edges, count)
 }
 
@@ -1087,8 +1209,93 @@ pub fn union(a: &[u8], b: &[u8], out: &mut [u8]) -> Result<usize, u64> {
 pub fn difference(a: &[u8], b: &[u8], out: &mut [u8]) -> Result<usize, u64> {
     let (e, f) = open_both(a, b)?;
     let (mut merged, mut ends) = merge_opened(a, &e, b, &f);
-    let (edges, count) = subtract(&e, &mut merged, &mut ends);
+    let (edges, count) = remainder(&e, &mut merged, &mut ends);
     write(e.width, count, &ends, &edges, out)
+}
+
+// ---- Split
+
+/// The members that both have are kept, those that only the first has, only the second: each in marks of their own, and the queue
+/// stays as it is.
+struct Apart<'a> {
+    queue: &'a [u8],
+    both: &'a mut [u8],
+    only_first: &'a mut [u8],
+    only_second: &'a mut [u8],
+}
+
+impl Marks for Apart<'_> {
+    fn queue(&self) -> &[u8] {
+        self.queue
+    }
+
+    fn mark_singles(&mut self, j: usize, x: u32, child: usize) {
+        put_singles(self.both, j, x, child);
+        put_singles(self.only_first, j, x, child);
+        put_singles(self.only_second, j, x, child);
+    }
+
+    fn mark_byte(&mut self, j: usize, x: u8, child: usize) {
+        self.both[j] = marked_byte::<HAS_EDGE>(x, eight(self.both, child));
+        self.only_first[j] = marked_byte::<HAS_EDGE>(x, eight(self.only_first, child));
+        self.only_second[j] = marked_byte::<HAS_EDGE>(x, eight(self.only_second, child));
+    }
+
+    fn mark_last_byte(&mut self, j: usize, x: u8, child: usize) {
+        let flags = eight(self.queue, child);
+        self.both[j] = marked_byte::<BOTH>(x, flags);
+        self.only_first[j] = marked_byte::<ONLY_FIRST>(x, flags);
+        self.only_second[j] = marked_byte::<ONLY_SECOND>(x, flags);
+    }
+
+    fn mark_record(&mut self, r: usize, i: usize, x: u8, child: usize) {
+        put_record(self.both, i, marked_record::<BOTH>(self.queue, self.both, r, x, child));
+        put_record(self.only_first, i, marked_record::<ONLY_FIRST>(self.queue, self.only_first, r, x, child));
+        put_record(self.only_second, i, marked_record::<ONLY_SECOND>(self.queue, self.only_second, r, x, child));
+    }
+}
+
+/// A part of two sets, to be written.
+struct Part {
+    edges: Vec<u8>,
+    count: usize,
+    ends: [usize; MAX_WIDTH],
+}
+
+impl Part {
+    /// The first r records that have an edge, in front of a room.
+    fn of(marks: &[u8], r: usize, width: usize, mut room: Vec<u8>) -> Part {
+        let mut ends = [0; MAX_WIDTH];
+        let count = collect(marks, r, &mut room, &mut ends[..width]);
+        Part { edges: room, count, ends }
+    }
+}
+
+/// The keys in both, only in the first, only in the second: one merge, and their marks made in one pass over it. The queue is free
+/// once the marks are made, and each room of marks once its records are moved.
+fn parts_of(a: &[u8], e: &Opened, b: &[u8], f: &Opened) -> [Part; 3] {
+    let (Merged { queue, records, members }, _) = merge_opened(a, e, b, f);
+    let room = records.div_ceil(4) + 8;
+    let [mut both, mut only_first, mut only_second] = [(); 3].map(|()| vec![0u8; room]);
+    // cut to one length, so that what is within one of them is seen to be within all
+    let [x, y, z] = [&mut both, &mut only_first, &mut only_second].map(|marks| &mut marks[..room]);
+    mark(Apart { queue: &queue, both: x, only_first: y, only_second: z }, records, members);
+    let part = |marks: &[u8], room| Part::of(marks, records, e.width, room);
+    [part(&both, queue), part(&only_first, both), part(&only_second, only_first)]
+}
+
+/// No part has more edges than its whole, so none is refused 5; all are tested for 14 before one is written.
+pub fn split(a: &[u8], b: &[u8], both: &mut [u8], only_first: &mut [u8], only_second: &mut [u8]) -> Result<[usize; 3], u64> {
+    let (e, f) = open_both(a, b)?;
+    let (parts, outs) = (parts_of(a, &e, b, &f), [both, only_first, only_second]);
+    for (part, out) in parts.iter().zip(&outs) {
+        length(e.width, part.ends[e.width - 1], out.len())?;
+    }
+    let mut lengths = [0; 3];
+    for ((part, out), length) in parts.iter().zip(outs).zip(&mut lengths) {
+        *length = write(e.width, part.count, &part.ends, &part.edges, out)?;
+    }
+    Ok(lengths)
 }
 
 // ---- Weights
@@ -1192,7 +1399,7 @@ pub fn difference_weighted(a: &[u8], a_weights: &[i32], b: &[u8], out: &mut [u8]
     let (e, f) = open_both(a, b)?;
     list_fits(&e, a_weights)?;
     let (mut merged, mut ends) = merge_opened(a, &e, b, &f);
-    let (edges, count) = subtract(&e, &mut merged, &mut ends);
+    let (edges, count) = remainder(&e, &mut merged, &mut ends);
     both_fit(e.width, count, &ends, out, weights)?;
     keep_entries(&merged, a_weights, &mut weights[..count]);
     write(e.width, count, &ends, &edges, out)

@@ -1,7 +1,7 @@
 //! What the C interface answers, as Rust values.
 
-use crate::ffi::{Answer, Range};
-use crate::{Posting, PrefixRange, Refusal};
+use crate::ffi::{Answer, Lengths, Range};
+use crate::{Posting, PrefixRange, Refusal, Split};
 
 pub(crate) fn refusal(number: u32) -> Refusal {
     match Refusal::from_number(u64::from(number)) {
@@ -26,6 +26,16 @@ pub(crate) fn value(answer: Answer) -> Result<u64, Refusal> {
 /// A number of bytes.
 pub(crate) fn length(answer: Answer) -> Result<usize, Refusal> {
     value(answer).map(|length| length as usize)
+}
+
+/// The numbers of bytes of a split.
+pub(crate) fn lengths(lengths: Lengths) -> Result<Split<usize>, Refusal> {
+    match lengths {
+        Lengths { refusal: 0, both, only_first, only_second } => {
+            Ok(Split { both: both as usize, only_first: only_first as usize, only_second: only_second as usize })
+        }
+        Lengths { refusal: number, .. } => Err(refusal(number)),
+    }
 }
 
 /// The member indexes of a prefix.

@@ -1,6 +1,6 @@
 //! The calls on bytes. Each checks the encodings it is lent, every time.
 
-use crate::{answers, ffi, Cursor, EdgeOffset, Encoding, MemberIndex, Posting, PrefixRange, Refusal};
+use crate::{answers, ffi, Cursor, EdgeOffset, Encoding, MemberIndex, Posting, PrefixRange, Refusal, Split};
 
 /// Writes the encoding of a batch's keys to the front of the buffer and tells its length. A batch is keys of `width` bits laid
 /// end to end in rising order; equal neighbours are one key.
@@ -43,6 +43,35 @@ pub fn difference(first: &[u8], second: &[u8], out: &mut [u8]) -> Result<usize, 
     answers::length(ffi::difference(first, second, out))
 }
 
+/// Writes the encodings of three sets to the fronts of three buffers and tells their lengths: of the keys in both sets, of those
+/// only in the first, of those only in the second. If one of the buffers is too short, none changes.
+///
+/// A part of a set has no longer encoding than the set: where the first encoding fits, `both` and `only_first` fit, and where the
+/// second fits, `only_second` fits.
+///
+/// ```
+/// use loes::{Refusal, Split};
+///
+/// let (a, b) = (loes::pack_to_vec(3, &[0x00, 0x60])?, loes::pack_to_vec(3, &[0x60, 0xC0])?);
+/// let (mut both, mut first, mut second) = ([0; 100], [0; 100], [0; 100]);
+/// let lengths = loes::split(&a, &b, &mut both, &mut first, &mut second)?;
+/// assert_eq!(lengths, Split { both: 47, only_first: 47, only_second: 47 });
+/// assert_eq!(both[..47], loes::pack_to_vec(3, &[0x60])?);
+/// assert_eq!(first[..47], loes::pack_to_vec(3, &[0x00])?);
+/// assert_eq!(second[..47], loes::pack_to_vec(3, &[0xC0])?);
+/// assert_eq!(loes::split(&a, &b, &mut both, &mut first, &mut second[..46]), Err(Refusal::ShortBuffer));
+/// # Ok::<(), Refusal>(())
+/// ```
+pub fn split(
+    first: &[u8],
+    second: &[u8],
+    both: &mut [u8],
+    only_first: &mut [u8],
+    only_second: &mut [u8],
+) -> Result<Split<usize>, Refusal> {
+    answers::lengths(ffi::split(first, second, both, only_first, only_second))
+}
+
 /// [`pack`] into a new vector.
 ///
 /// ```
@@ -75,13 +104,40 @@ pub fn difference_to_vec(first: &[u8], second: &[u8]) -> Result<Vec<u8>, Refusal
     to_vec(|out| difference(first, second, out))
 }
 
+/// [`split`] into new vectors.
+///
+/// ```
+/// use loes::Split;
+///
+/// let (set, empty) = (loes::pack_to_vec(3, &[0x60])?, loes::pack_to_vec(3, &[])?);
+/// let itself = Split { both: set.clone(), only_first: empty.clone(), only_second: empty };
+/// assert_eq!(loes::split_to_vec(&set, &set)?, itself);
+/// # Ok::<(), loes::Refusal>(())
+/// ```
+pub fn split_to_vec(first: &[u8], second: &[u8]) -> Result<Split<Vec<u8>>, Refusal> {
+    // where an encoding fits, those of its set's parts fit; bytes that are longer than every encoding are refused
+    let [mut both, mut only_first, mut only_second] =
+        [first, first, second].map(|whole| vec![0; whole.len().min(Encoding::MAX_BYTES)]);
+    let lengths = split(first, second, &mut both, &mut only_first, &mut only_second)?;
+    Ok(Split {
+        both: cut(both, lengths.both),
+        only_first: cut(only_first, lengths.only_first),
+        only_second: cut(only_second, lengths.only_second),
+    })
+}
+
 /// What a call writes into a buffer that every encoding fits into.
 fn to_vec(call: impl FnOnce(&mut [u8]) -> Result<usize, Refusal>) -> Result<Vec<u8>, Refusal> {
     let mut out = vec![0; Encoding::MAX_BYTES];
     let length = call(&mut out)?;
+    Ok(cut(out, length))
+}
+
+/// The first bytes of a vector, and no room for more.
+fn cut(mut out: Vec<u8>, length: usize) -> Vec<u8> {
     out.truncate(length);
     out.shrink_to_fit();
-    Ok(out)
+    out
 }
 
 /// Whether the key is a member. [`Encoding::contains`] asks without checking the encoding again.

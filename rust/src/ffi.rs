@@ -53,6 +53,16 @@ pub struct Range {
     pub count: u64,
 }
 
+/// The refusal's number or 0, and the lengths of the encodings of a split.
+#[repr(C)]
+#[derive(Clone, Copy, Debug, PartialEq, Eq)]
+pub struct Lengths {
+    pub refusal: u32,
+    pub both: u64,
+    pub only_first: u64,
+    pub only_second: u64,
+}
+
 /// A cursor in numbers.
 #[repr(C)]
 #[derive(Clone, Debug, PartialEq, Eq)]
@@ -75,6 +85,7 @@ extern "C" {
     fn loes_pack(width: u64, batch: *const u8, n: usize, out: *mut u8, m: usize) -> Answer;
     fn loes_union(a: *const u8, an: usize, b: *const u8, bn: usize, out: *mut u8, m: usize) -> Answer;
     fn loes_difference(a: *const u8, an: usize, b: *const u8, bn: usize, out: *mut u8, m: usize) -> Answer;
+    fn loes_split(a: *const u8, an: usize, b: *const u8, bn: usize, both: *mut u8, both_m: usize, only_first: *mut u8, only_first_m: usize, only_second: *mut u8, only_second_m: usize) -> Lengths;
     fn loes_contains(l: *const u8, n: usize, key: *const u8, k: usize) -> Answer;
     fn loes_index_of(l: *const u8, n: usize, key: *const u8, k: usize) -> Answer;
     fn loes_lower_bound(l: *const u8, n: usize, key: *const u8, k: usize) -> Answer;
@@ -131,6 +142,16 @@ pub fn union(a: &[u8], b: &[u8], out: &mut [u8]) -> Answer {
 
 pub fn difference(a: &[u8], b: &[u8], out: &mut [u8]) -> Answer {
     unsafe { loes_difference(a.as_ptr(), a.len(), b.as_ptr(), b.len(), out.as_mut_ptr(), out.len()) }
+}
+
+#[rustfmt::skip]
+pub fn split(a: &[u8], b: &[u8], both: &mut [u8], only_first: &mut [u8], only_second: &mut [u8]) -> Lengths {
+    unsafe {
+        loes_split(
+            a.as_ptr(), a.len(), b.as_ptr(), b.len(), both.as_mut_ptr(), both.len(),
+            only_first.as_mut_ptr(), only_first.len(), only_second.as_mut_ptr(), only_second.len(),
+        )
+    }
 }
 
 pub fn contains(l: &[u8], key: &[u8]) -> Answer {

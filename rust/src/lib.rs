@@ -17,6 +17,11 @@
 //! let both = loes::union_to_vec(&harbour, &depot)?;
 //! let rest = loes::difference_to_vec(&both, &depot)?;
 //!
+//! // or parted in three: the keys in both, only in the first, only in the second
+//! let parts = loes::split_to_vec(&harbour, &depot)?;
+//! assert_eq!(parts.both, loes::pack_to_vec(16, &[0x01, 0x07])?);
+//! assert_eq!((&parts.only_first, parts.only_second), (&rest, loes::pack_to_vec(16, &[0xFF, 0xFF])?));
+//!
 //! // open once: the bytes are checked whole; then ask
 //! let set = Encoding::open(&both)?;
 //! assert_eq!((set.width(), set.len()), (16, 4));
@@ -70,7 +75,8 @@
 //! ```
 //!
 //! Every call works in lent memory and is total: whatever bytes it is given, it answers or names the [`Refusal`]; refused, it
-//! changes nothing. The calls and their refusals are proved of the static library that this crate links; this crate adds the types.
+//! changes nothing. What a call works with is on the stack: allow it 704 KiB. The calls and their refusals are proved of the static
+//! library that this crate links; this crate adds the types.
 
 #![deny(missing_docs)]
 #![deny(unsafe_code)]
@@ -103,12 +109,14 @@ pub mod ffi;
 mod posting;
 #[cfg(feature = "linked")]
 mod prefix;
+#[cfg(feature = "linked")]
+mod split;
 
 #[cfg(feature = "linked")]
 pub use calls::{
     advance, contains, difference, difference_to_vec, difference_weighted, difference_weighted_to_vec, index_of, key_at,
-    lower_bound, pack, pack_to_vec, pack_weighted, pack_weighted_to_vec, post, prefix, rank, union, union_to_vec, union_weighted,
-    union_weighted_to_vec,
+    lower_bound, pack, pack_to_vec, pack_weighted, pack_weighted_to_vec, post, prefix, rank, split, split_to_vec, union,
+    union_to_vec, union_weighted, union_weighted_to_vec,
 };
 #[cfg(feature = "linked")]
 pub use counts::{EdgeOffset, MemberIndex};
@@ -120,3 +128,5 @@ pub use encoding::{Encoding, Keys};
 pub use posting::Posting;
 #[cfg(feature = "linked")]
 pub use prefix::PrefixRange;
+#[cfg(feature = "linked")]
+pub use split::Split;

@@ -4,8 +4,8 @@
 mod cases;
 mod plain;
 
-use loes::{ffi, Cursor, EdgeOffset, Encoding, MemberIndex, Posting, PrefixRange, Refusal, State};
-use plain::{key_len, Answer, RangeAnswer, Set};
+use loes::{ffi, Cursor, EdgeOffset, Encoding, MemberIndex, Posting, PrefixRange, Refusal, Split, State};
+use plain::{key_len, Answer, LengthsAnswer, RangeAnswer, Set};
 
 struct Library;
 
@@ -58,6 +58,17 @@ fn range(result: Result<PrefixRange, Refusal>, numbers: ffi::Range) -> RangeAnsw
     answer.map(|range| plain::PrefixRange { first: range.first.0, count: range.count })
 }
 
+/// The Rust answer, which has the numbers of the C one; refused, that one has no other.
+fn lengths(result: Result<Split<usize>, Refusal>, numbers: ffi::Lengths) -> LengthsAnswer {
+    let answer = number(result).map(|split| [split.both, split.only_first, split.only_second].map(|length| length as u64));
+    let right = match answer {
+        Ok([both, only_first, only_second]) => ffi::Lengths { refusal: 0, both, only_first, only_second },
+        Err(refusal) => ffi::Lengths { refusal: refusal as u32, both: 0, only_first: 0, only_second: 0 },
+    };
+    assert_eq!(numbers, right);
+    answer
+}
+
 /// Encodings are built, opened and asked through the Rust interface; cursors in numbers, so that any can be given.
 impl Subject for Library {
     type Opened<'a> = (ffi::OpenedBytes<'a>, Encoding<'a>);
@@ -73,6 +84,16 @@ impl Subject for Library {
 
     fn difference(a: &[u8], b: &[u8], out: &mut [u8]) -> Answer {
         length(loes::difference(a, b, out))
+    }
+
+    fn split(a: &[u8], b: &[u8], outs: [&mut [u8]; 3]) -> LengthsAnswer {
+        // the C interface in copies of the buffers
+        let [mut both, mut only_first, mut only_second] = outs.each_ref().map(|out| out.to_vec());
+        let numbers = ffi::split(a, b, &mut both, &mut only_first, &mut only_second);
+        let [x, y, z] = outs;
+        let answer = lengths(loes::split(a, b, x, y, z), numbers);
+        assert!((&both[..], &only_first[..], &only_second[..]) == (x, y, z));
+        answer
     }
 
     fn open(l: &[u8]) -> Result<(Self::Opened<'_>, [u64; 3]), u64> {
@@ -171,6 +192,13 @@ fn answers_in_numbers() {
     assert_eq!((ffi::prefix(&P2, 0, &[]), ffi::prefix(&P2, 2, &[0x80])), (range(0, 0, 3), range(0, 2, 0)));
     assert_eq!((ffi::prefix(&P2, 2, &[0xA0]), ffi::prefix(&P2, 4, &[0xA0])), (range(8, 0, 0), range(9, 0, 0)));
     assert_eq!(ffi::prefix(&P2[..47], 4, &[0xA0]), range(1, 0, 0));
+    let split = |first: &[u8], rooms: [usize; 3]| {
+        let [mut both, mut only_first, mut only_second] = rooms.map(|room| vec![0; room]);
+        let lengths = ffi::split(first, &P2, &mut both, &mut only_first, &mut only_second);
+        (lengths.refusal, [lengths.both, lengths.only_first, lengths.only_second])
+    };
+    assert_eq!((split(&P2, [48, 36, 36]), split(&P2, [48, 36, 35])), ((0, [48, 36, 36]), (14, [0; 3])));
+    assert_eq!(split(&P2[..47], [0; 3]), (1, [0; 3]));
     assert_eq!(ffi::pack(0, &[], &mut []), refused(4));
     assert_eq!(ffi::opened(&P2), ffi::Opened { refusal: 0, width: 3, count: 3, bits: 12 });
     assert_eq!(ffi::opened(&P2[..47]), ffi::Opened { refusal: 1, width: 0, count: 0, bits: 0 });
@@ -260,6 +288,15 @@ fn into_vectors() {
         assert_eq!(loes::union_to_vec(&x, &y).unwrap(), plain::union(&a, &b).unwrap().lay().encode());
         assert_eq!(loes::difference_to_vec(&x, &y).unwrap(), plain::difference(&a, &b).unwrap().lay().encode());
         assert_eq!(loes::union_to_vec(&x, &y[1..]), Err(Refusal::WrongTag));
+        let [both, only_first, only_second] = plain::split_laid(&a, &b).unwrap().map(|laid| laid.encode());
+        assert_eq!(loes::split_to_vec(&x, &y), Ok(Split { both, only_first, only_second }));
+        assert_eq!(loes::split_to_vec(&x, &y[1..]), Err(Refusal::WrongTag));
+        // longer than every encoding
+        let long = [&x[..], &vec![0; Encoding::MAX_BYTES]].concat();
+        assert_eq!(
+            (loes::split_to_vec(&long, &y), loes::split_to_vec(&x, &long)),
+            (Err(Refusal::TrailingBytes), Err(Refusal::TrailingBytes))
+        );
     });
 }
 
@@ -314,20 +351,31 @@ fn cursors() {
     });
 }
 
+/// The bytes of stack that a text allows a call.
+fn allowed(text: &str) -> usize {
+    let (_, rest) = text.split_once("allow it ").expect("stack is allowed");
+    let (number, _) = rest.split_once(" KiB").expect("in KiB");
+    number.parse::<usize>().unwrap() << 10
+}
+
 /// No call needs more stack than the header allows it, on the largest sets.
 #[test]
 fn stack() {
-    const ALLOWED: usize = 384 << 10;
+    let header = allowed(include_str!("../../include/loes.h"));
+    assert_eq!(allowed(include_str!("../src/lib.rs")), header, "the crate's documentation allows the same");
     let halves = [0, 1].map(|first| half_set(first).lay());
     let (key, count) = (halves[0].set.keys.first().unwrap().clone(), halves[0].count() as u64);
     let batch = batch_of(&halves[0].set);
     let [a, b] = halves.map(|laid| laid.encode());
     let (mut out, mut cursor) = (vec![0; Encoding::MAX_BYTES], Cursor::new());
+    let (mut only_first, mut only_second) = (out.clone(), out.clone());
     let (mut list, zeros) = (vec![0; count as usize], vec![0; count as usize]);
     let calls = move || {
         assert_eq!(loes::pack(19, &batch, &mut out), Ok(a.len()));
         assert_eq!(loes::union(&a, &b, &mut out), Err(Refusal::TooLarge));
         assert_eq!(loes::difference(&a, &b, &mut out), Ok(a.len()));
+        let lengths = Split { both: 100, only_first: a.len(), only_second: b.len() };
+        assert_eq!(loes::split(&a, &b, &mut out, &mut only_first, &mut only_second), Ok(lengths));
         assert_eq!(loes::contains(&a, &key), Ok(true));
         assert_eq!(loes::index_of(&a, &key), Ok(Some(MemberIndex(0))));
         assert_eq!(loes::lower_bound(&a, &key), Ok(Some(MemberIndex(0))));
@@ -342,5 +390,5 @@ fn stack() {
         assert_eq!(loes::difference_weighted(&a, &zeros, &b, &mut out, &mut list), Ok(a.len()));
         assert_eq!(loes::post(&a, &mut list, &key, 1), Ok(Posting::Posted));
     };
-    std::thread::Builder::new().stack_size(ALLOWED).spawn(calls).unwrap().join().unwrap();
+    std::thread::Builder::new().stack_size(header).spawn(calls).unwrap().join().unwrap();
 }

@@ -6,7 +6,7 @@ mod plain;
 #[path = "../benches/plain_rust.rs"]
 mod plain_rust;
 
-use plain::{Answer, PrefixRange, RangeAnswer};
+use plain::{Answer, LengthsAnswer, PrefixRange, RangeAnswer};
 use plain_rust::{Cursor, Opened};
 
 struct PlainRust;
@@ -29,6 +29,10 @@ impl Subject for PlainRust {
 
     fn difference(a: &[u8], b: &[u8], out: &mut [u8]) -> Answer {
         length(plain_rust::difference(a, b, out))
+    }
+
+    fn split(a: &[u8], b: &[u8], [both, only_first, only_second]: [&mut [u8]; 3]) -> LengthsAnswer {
+        plain_rust::split(a, b, both, only_first, only_second).map(|lengths| lengths.map(|length| length as u64))
     }
 
     fn open(l: &[u8]) -> Result<((&[u8], Opened), [u64; 3]), u64> {

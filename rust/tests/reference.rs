@@ -1,5 +1,5 @@
-//! The reference against document 01's examples and refusals, and against worked examples of prefixes and of weights. Needs no
-//! library.
+//! The reference against document 01's examples and refusals, and against worked examples of prefixes, of splits and of weights.
+//! Needs no library.
 
 #[allow(dead_code)]
 mod plain;
@@ -207,6 +207,32 @@ fn prefixes() {
     assert_eq!((wide.prefix(8, &[0x10, 0x00]), wide.prefix(9, &[0x10])), (Err(8), Err(8)));
     // the empty set has none, of any length
     assert_eq!([0, 1, 3].map(|bits| of(3, &[]).prefix(bits, &[0][..usize::from(bits > 0)])), [range(0, 0); 3]);
+}
+
+/// {000, 011} and {011, 110}, by hand: one key in each of the three.
+#[test]
+fn splits() {
+    let [a, b] = left_and_right();
+    let parts = |a: &Laid, b: &Laid| plain::split_laid(&a.set, &b.set);
+    let three = |sets: [&[u8]; 3]| Ok(sets.map(|keys| of(3, keys)));
+    assert_eq!(parts(&a, &b), three([&[0x60], &[0x00], &[0xC0]]));
+    assert_eq!(parts(&b, &a), three([&[0x60], &[0xC0], &[0x00]]));
+    assert_eq!(parts(&p2(), &b), three([&[0x60, 0xC0], &[0x00], &[]]));
+    assert_eq!(parts(&p2(), &p2()), three([&[0x00, 0x60, 0xC0], &[], &[]]));
+    assert_eq!(parts(&of(3, &[]), &p2()), three([&[], &[], &[0x00, 0x60, 0xC0]]));
+    assert_eq!(parts(&p2(), &of(4, &[])), Err(13));
+    // each at the front of its own buffer, or none
+    let encodings = parts(&a, &b).unwrap().map(|laid| laid.encode());
+    let written = |rooms: [usize; 3]| {
+        let mut outs = rooms.map(|room| vec![0xEE; room]);
+        (plain::write_three(&encodings, outs.each_mut().map(|out| &mut out[..])), outs)
+    };
+    let [both, only_first, only_second] = encodings.clone();
+    let right = [both, [&only_first[..], &[0xEE; 2]].concat(), [&only_second[..], &[0xEE]].concat()];
+    assert_eq!(written([47, 49, 48]), (Ok([47; 3]), right));
+    for rooms in [[46, 47, 47], [47, 46, 47], [47, 47, 46], [0, 99, 99], [0; 3]] {
+        assert_eq!(written(rooms), (Err(14), rooms.map(|room| vec![0xEE; room])));
+    }
 }
 
 /// P2's walk: each member's edges are set, and its last edge has the rank that its index asks for.

@@ -21,10 +21,14 @@ use Rattle.build.specs.declared.Written.the-variants as written
 use Rattle.build.specs.Writing.{writtenOutcome}
 use Rattle.weights.specs.Weights.{Weights, outputs}
 use Rattle.weights.specs.Answers.{weightedOutcome}
+use Rattle.split.specs.declared.AllWritten.{AllWritten}
+use Rattle.split.specs.declared.AllWritten.the-variants as allWritten
+use Rattle.split.specs.Splitting.{splitOutcome}
 use Rattle.capi.specs.declared.Answer.{Answer}
 use Rattle.capi.specs.declared.Opened.{Opened}
 use Rattle.capi.specs.declared.Range.{Range}
-use Rattle.capi.specs.Coded.{codeOf, Given, gives, coded, Positive, opening, noOpening, openingOf, Tells, rangeOf}
+use Rattle.capi.specs.declared.Lengths.{Lengths}
+use Rattle.capi.specs.Coded.{codeOf, Given, gives, coded, Positive, opening, noOpening, openingOf, Tells, rangeOf, lengthsOf, threeCoded}
 use Rattle.capi.proofs.NoZero.{zero-is-no-refusal}
 
 pub told : {L : Type 0} {r : Answer} (o : OutcomeOf L) → r ≡ codeOf (o .answer) → gives r (o .buffers) ≡ coded o
@@ -42,8 +46,8 @@ onward q p = p ∙ ap coded q
 pub with-list : {r : Answer} (a : Written) → ((out : Bytes) → gives r (out ∷ []) ≡ coded (writtenOutcome a out)) → (out : Bytes) (ws : Weights)
     → gives r (outputs (out ∷ []) ws) ≡ coded (weightedOutcome a out ws)
 unfolding writtenOutcome coded
-with-list (written.Refused k) h out ws = ap (λ (g : Given (List Bytes)). gives (g .answer) (outputs (out ∷ []) ws)) (h out)
-with-list (written.Length n) h out ws = ap (λ (g : Given (List Bytes)). gives (g .answer) (outputs (out ∷ []) ws)) (h out)
+with-list (written.Refused k) h out ws = ap (λ (g : Given Answer (List Bytes)). gives (g .answer) (outputs (out ∷ []) ws)) (h out)
+with-list (written.Length n) h out ws = ap (λ (g : Given Answer (List Bytes)). gives (g .answer) (outputs (out ∷ []) ws)) (h out)
 
 -- ---- Opening
 abbrev pub Opening : Bytes → Opened → Type 0
@@ -101,3 +105,12 @@ module _ (l : Bytes) (m n b : ℕ) (told : Tells m n b l) where
 -- ---- Prefixes
 pub range-onward : {r : Range} {o o' : Outcome} → o ≡ o' → r ≡ rangeOf (o .answer) → r ≡ rangeOf (o' .answer)
 range-onward q p = p ∙ ap (λ (x : Outcome). rangeOf (x .answer)) q
+
+-- ---- Split
+pub three-by-case : {r : Lengths} {a b : AllWritten} (x y z : Bytes) → a ≡ b → r ≡ lengthsOf (splitOutcome b x y z .answer) → gives r (x ∷ y ∷ z ∷ []) ≡ threeCoded (splitOutcome a x y z)
+unfolding threeCoded splitOutcome
+three-by-case {r} {a} {b} x y z q p = go b p ∙ ap (λ c. threeCoded (splitOutcome c x y z)) (sym q)
+  where
+    go : (c : AllWritten) → r ≡ lengthsOf (splitOutcome c x y z .answer) → gives r (x ∷ y ∷ z ∷ []) ≡ threeCoded (splitOutcome c x y z)
+    go (allWritten.Refused k) h = ap (λ l. gives l (x ∷ y ∷ z ∷ [])) h
+    go (allWritten.Lengths n) h = ap (λ l. gives l (x ∷ y ∷ z ∷ [])) h

@@ -11,8 +11,8 @@ use Rattle.loes.specs.Keys.{Key, smaller}
 use Rattle.loes.specs.Entry.{Entry, keysOf, count}
 use Rattle.loes.specs.Refusals.{Tests, test, firstOf}
 use Rattle.loes.specs.Read.{fieldTests, headTests, tailTests, readTests, readingOf, read, entryIn}
-use Rattle.loes.specs.Model.{Answer, isPresent, isAbsent, isNone, indexIs, rankIs, rangeIs, isPosted, OutcomeOf, StepOf, refusal, refusedOr, tested, answers, writes, writesKey, keyIn, keyTest, belowTest, atMostTest, batchKeys, risingTests, packTests, pack, joinTests, union, difference, opens, contains, indexOf, keyAt, rankAt, lowerBound, prefixTests, prefix}
-use Rattle.loes.specs.Calls.{afterReading, reading, openCall, packCall, unionCall, differenceCall, containsCall, indexOfCall, lowerBoundCall, keyAtCall, rankCall, prefixCall}
+use Rattle.loes.specs.Model.{Answer, isPresent, isAbsent, isNone, indexIs, rankIs, rangeIs, isPosted, OutcomeOf, StepOf, refusal, refusedOr, tested, answers, writes, writesKey, keyIn, keyTest, belowTest, atMostTest, batchKeys, risingTests, packTests, pack, joinTests, union, difference, split, opens, contains, indexOf, keyAt, rankAt, lowerBound, prefixTests, prefix}
+use Rattle.loes.specs.Calls.{afterReading, reading, openCall, packCall, unionCall, differenceCall, splitCall, containsCall, indexOfCall, lowerBoundCall, keyAtCall, rankCall, prefixCall}
 use Rattle.loes.specs.Cursor.{Cursor, stays, goesTo, goesToAfter, staysOr, hasNext, nextKey, advanceTests, advance, advanceReading, advanceCall}
 use Rattle.weights.specs.Weights.{Weights, outputs, WeightedOutcome, leaving, checked, listTest, sumTest, writesWith, post, packWeightedCall, postCall, unionWeighted, unionWeightedCall, differenceWeighted, differenceWeightedCall}
 use Rattle.capi.specs.Coded.{Positive, ZeroIsNoRefusal}
@@ -152,6 +152,10 @@ difference-positive : (a b out : Bytes) → Positive (differenceCall a b out .an
 unfolding differenceCall difference
 difference-positive a b out = reading-positive a _ _ (λ e. reading-positive b _ _ (λ f. writes-positive _ _ _ (join-tests e f)))
 
+split-positive : (a b x y z : Bytes) → Positive (splitCall a b x y z .answer)
+unfolding splitCall split
+split-positive a b x y z = reading-positive a _ _ (λ e. reading-positive b _ _ (λ f. writes-positive _ _ _ (join-tests e f)))
+
 contains-positive : (l x : Bytes) → Positive (containsCall l x .answer)
 unfolding containsCall contains
 contains-positive l x = reading-positive l _ _ (λ e. answers-positive _ _ (key-numbered (e .width) x, tt) (cond-positive (e .set (keyIn (e .width) x)) isPresent isAbsent tt tt))
@@ -235,6 +239,7 @@ zero-is-no-refusal =
       pack = pack-positive;
       union = union-positive;
       difference = difference-positive;
+      split = split-positive;
       contains = contains-positive;
       indexOf = index-positive;
       lowerBound = bound-positive;

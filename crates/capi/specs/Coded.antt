@@ -7,12 +7,13 @@ use lib.IntN.{ℤ}
 use lib.Dec.{eqb}
 use Rattle.loes.specs.Bytes.{Bytes}
 use Rattle.loes.specs.Model as model
-use Rattle.loes.specs.Calls.{openCall, packCall, unionCall, differenceCall, containsCall, indexOfCall, lowerBoundCall, keyAtCall, rankCall, prefixCall}
+use Rattle.loes.specs.Calls.{openCall, packCall, unionCall, differenceCall, splitCall, containsCall, indexOfCall, lowerBoundCall, keyAtCall, rankCall, prefixCall}
 use Rattle.loes.specs.Cursor.{Cursor, advanceCall}
 use Rattle.weights.specs.Weights.{Weights, packWeightedCall, postCall, unionWeightedCall, differenceWeightedCall}
 use Rattle.capi.specs.declared.Answer.{Answer}
 use Rattle.capi.specs.declared.Opened.{Opened}
 use Rattle.capi.specs.declared.Range.{Range}
+use Rattle.capi.specs.declared.Lengths.{Lengths}
 
 -- refused: the number, and nothing else
 abbrev pub refuses : ℕ → Answer
@@ -30,7 +31,7 @@ abbrev pub lengthIn : List ℕ → ℕ
 lengthIn [] = 0
 lengthIn (n ∷ ns) = n
 
--- present and posted are 1; a step to after writes no key; opening and a prefix have answers of their own, below
+-- present and posted are 1; a step to after writes no key; opening, a prefix and a split have answers of their own, below
 abbrev pub codeOf : model.Answer → Answer
 codeOf (model.refused k) = refuses k
 codeOf (model.wrote ns) = says (lengthIn ns)
@@ -64,6 +65,7 @@ pub record ZeroIsNoRefusal : Type 0 where
   pub pack : (m : ℕ) (batch out : Bytes) → Positive (packCall m batch out .answer)
   pub union : (a b out : Bytes) → Positive (unionCall a b out .answer)
   pub difference : (a b out : Bytes) → Positive (differenceCall a b out .answer)
+  pub split : (a b both onlyFirst onlySecond : Bytes) → Positive (splitCall a b both onlyFirst onlySecond .answer)
   pub contains : (l x : Bytes) → Positive (containsCall l x .answer)
   pub indexOf : (l x : Bytes) → Positive (indexOfCall l x .answer)
   pub lowerBound : (l x : Bytes) → Positive (lowerBoundCall l x .answer)
@@ -78,14 +80,14 @@ pub record ZeroIsNoRefusal : Type 0 where
 
 -- ---- Calls
 -- a call's answer, and what it was lent for output, at exit
-pub record Given (L : Type 0) : Type 0 where
-  pub answer : Answer
+pub record Given (A L : Type 0) : Type 0 where
+  pub answer : A
   pub buffers : L
 
-abbrev pub gives : {L : Type 0} → Answer → L → Given L
+abbrev pub gives : {A L : Type 0} → A → L → Given A L
 gives r bufs = record { answer = r; buffers = bufs }
 
-unfoldable pub coded : {L : Type 0} → model.OutcomeOf L → Given L
+unfoldable pub coded : {L : Type 0} → model.OutcomeOf L → Given Answer L
 coded o = gives (codeOf (o .answer)) (o .buffers)
 
 -- ---- Opening
@@ -135,3 +137,34 @@ rangeOf model.isNone = noRange 0
 rangeOf model.isPosted = noRange 0
 rangeOf (model.indexIs i) = noRange 0
 rangeOf (model.rankIs r) = noRange 0
+
+-- ---- Split
+-- the lengths of three encodings
+abbrev pub lengths : ℕ → ℕ → ℕ → Lengths
+lengths x y z = record { refusal = 0; both = x; «only_first» = y; «only_second» = z }
+
+abbrev pub noLengths : ℕ → Lengths
+noLengths k = record { refusal = k; both = 0; «only_first» = 0; «only_second» = 0 }
+
+abbrev pub lengthsIn : List ℕ → Lengths
+lengthsIn [] = noLengths 0
+lengthsIn (x ∷ []) = noLengths 0
+lengthsIn (x ∷ y ∷ []) = noLengths 0
+lengthsIn (x ∷ y ∷ z ∷ ns) = lengths x y z
+
+-- a split answers with lengths or a refusal
+abbrev pub lengthsOf : model.Answer → Lengths
+lengthsOf (model.wrote ns) = lengthsIn ns
+lengthsOf (model.refused k) = noLengths k
+lengthsOf (model.wroteKey n) = noLengths 0
+lengthsOf (model.tells m n b) = noLengths 0
+lengthsOf model.isPresent = noLengths 0
+lengthsOf model.isAbsent = noLengths 0
+lengthsOf model.isNone = noLengths 0
+lengthsOf model.isPosted = noLengths 0
+lengthsOf (model.indexIs i) = noLengths 0
+lengthsOf (model.rankIs r) = noLengths 0
+lengthsOf (model.rangeIs i n) = noLengths 0
+
+unfoldable pub threeCoded : model.Outcome → Given Lengths (List Bytes)
+threeCoded o = gives (lengthsOf (o .answer)) (o .buffers)

@@ -8,7 +8,7 @@ ghost use Rattle.loes.specs.Bytes.{Bytes};
 ghost use Rattle.loes.specs.Read.{entryIn, opened};
 ghost use Rattle.loes.specs.Cursor.{isCursorOf};
 ghost use Rattle.loes.specs.Model as model;
-ghost use Rattle.loes.specs.Calls.{openCall, packCall, unionCall, differenceCall, containsCall, indexOfCall, lowerBoundCall, keyAtCall, rankCall, prefixCall};
+ghost use Rattle.loes.specs.Calls.{openCall, packCall, unionCall, differenceCall, splitCall, containsCall, indexOfCall, lowerBoundCall, keyAtCall, rankCall, prefixCall};
 ghost use Rattle.bits.specs.Tables.{Tallies};
 ghost use Rattle.encoding.specs.Opened.{Opens};
 ghost use Rattle.encoding.specs.Answers.{rankedOutcome};
@@ -17,9 +17,10 @@ ghost use Rattle.prefix.specs.Answers.{prefixedOutcome};
 ghost use Rattle.cursor.specs.Steps as cursor;
 ghost use Rattle.cursor.specs.Steps.{numbers};
 ghost use Rattle.build.specs.Writing as build;
+ghost use Rattle.split.specs.Splitting.{splitOutcome};
 ghost use Rattle.weights.specs.Weights.{Weights, outputs, packWeightedCall, postCall, unionWeightedCall, differenceWeightedCall};
 ghost use Rattle.weights.specs.Answers as weights;
-ghost use Rattle.capi.specs.Coded.{refuses, says, nothing, codeOf, gives, coded, opening, noOpening, openingOf, Tells, rangeOf};
+ghost use Rattle.capi.specs.Coded.{refuses, says, nothing, codeOf, gives, coded, opening, noOpening, openingOf, Tells, rangeOf, threeCoded};
 ghost use Rattle.capi.specs.Steps.{stepGives, cursorGives, moves, stateCode, stateIn, cursorIn, isState, stepCoded, stepAfter, stepCall, cursorCall, walkCall};
 use bits::EdgeOffset;
 use bits::MemberIndex;
@@ -35,6 +36,7 @@ use prefix::Prefixed;
 use query::Bound;
 use query::Lookup;
 use query::Membership;
+use split::AllWritten;
 
 // Whether what was asked for is there.
 const FOUND: u32 = 1;
@@ -80,6 +82,15 @@ pub struct Range {
     pub refusal: u32,
     pub first: MemberIndex,
     pub count: usize,
+}
+
+// loes_lengths
+#[repr(C)]
+pub struct Lengths {
+    pub refusal: u32,
+    pub both: usize,
+    pub only_first: usize,
+    pub only_second: usize,
 }
 
 // loes_cursor
@@ -217,6 +228,25 @@ fn written(a: build::Written) -> Answer
     }
 }
 
+fn all_written(a: AllWritten) -> Lengths
+    ensures { λ r. ⌜ ((x y z : Bytes) → gives r (x ∷ y ∷ z ∷ []) ≡ threeCoded (splitOutcome a x y z)) ⌝ }
+{
+    match a {
+        AllWritten::Refused(k) => Lengths {
+            refusal: k as u32,
+            both: 0,
+            only_first: 0,
+            only_second: 0,
+        },
+        AllWritten::Lengths(n) => Lengths {
+            refusal: NOT_REFUSED,
+            both: n.both,
+            only_first: n.only_first,
+            only_second: n.only_second,
+        },
+    }
+}
+
 fn posting(a: weights::Posting) -> Answer
     ensures { λ r. ⌜ ((ws : Weights) → gives r (outputs [] ws) ≡ coded (weights.postingOutcome a ws)) ⌝ }
 {
@@ -285,6 +315,20 @@ pub extern "C" fn loes_difference(a: &[u8], b: &[u8], out: &mut [u8]) -> Answer
     ensures { λ r. ⌜ gives r (now (out .exit) ∷ []) ≡ coded (differenceCall (now (a .entry)) (now (b .entry)) (now (out .entry))) ⌝ }
 {
     written(join::difference(a, b, out))
+}
+
+// The keys in both sets, in the first only and in the second only.
+#[no_mangle]
+pub extern "C" fn loes_split(
+    a: &[u8],
+    b: &[u8],
+    both: &mut [u8],
+    only_first: &mut [u8],
+    only_second: &mut [u8],
+) -> Lengths
+    ensures { λ r. ⌜ gives r (now (both .exit) ∷ now («only_first» .exit) ∷ now («only_second» .exit) ∷ []) ≡ threeCoded (splitCall (now (a .entry)) (now (b .entry)) (now (both .entry)) (now («only_first» .entry)) (now («only_second» .entry))) ⌝ }
+{
+    all_written(split::split(a, b, both, only_first, only_second))
 }
 
 // ---- Questions

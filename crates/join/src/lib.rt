@@ -3,7 +3,11 @@ ghost use Prim.Native.Nat.{_+_, _*_, _/_, _<_, _≤_};
 ghost use mathlib.Core.Path.{_≡_};
 ghost use mathlib.Core.List.{[], _∷_};
 ghost use lib.ListN.{length};
+ghost use Rattle.loes.specs.Limits.{maxEdges};
+ghost use Rattle.loes.specs.Bytes.{front};
 ghost use Rattle.loes.specs.Entry.{edgesOf};
+ghost use Rattle.loes.specs.Encode.{encode};
+ghost use Rattle.loes.specs.Read.{endOf};
 ghost use Rattle.loes.specs.Held.{entryHeld, Holds};
 ghost use Rattle.loes.specs.Model.{writes, unionEntry};
 ghost use Rattle.loes.specs.Calls.{unionCall, differenceCall};
@@ -116,13 +120,15 @@ pub fn subtracted(
     ensures { λ k. ⌜ Subtracts (entryHeld m ba (now (a .entry))) (entryHeld m bb (now (b .entry))) (now (q .entry)) (now (edges .entry)) (now (q .exit)) (now (edges .exit)) (k .edges) (k .flags .0) (k .flagged) ⌝ }
 {
     if ba + bb < DIFFERENCE_LEVEL * m + TABLES_FROM {
-        return restrict::subtract(m, a, ba, b, bb, &[], &[], &[], q, edges);
+        return restrict::subtract(m, a, ba, b, bb, &[], &[], &[], &[], q, edges);
     }
     let mut spreads = [0; join_tables::SPREAD_ENTRIES];
     let mut parts = [0; join_tables::PART_ENTRIES];
     let mut runs = [0; join_tables::RUN_ENTRIES];
+    let mut edged = [0; join_tables::EDGED_ENTRIES];
     join_tables::fill(&mut spreads, &mut parts, &mut runs);
-    restrict::subtract(m, a, ba, b, bb, &spreads, &parts, &runs, q, edges)
+    join_tables::fill_edged(&mut edged);
+    restrict::subtract(m, a, ba, b, bb, &spreads, &parts, &runs, &edged, q, edges)
 }
 
 // Writes the entry that k edge bits hold: 5, then 14.
@@ -135,6 +141,16 @@ fn write_joined(m: usize, k: usize, edges: &[u8], t: &[u8], out: &mut [u8]) -> W
     }
     let n = bits::bytes_for(k);
     build::write(m, k, &edges[..n], t, out)
+}
+
+// The encoding of the entry that k edge bits hold, at the front of a buffer that has room for it; tells its length.
+pub fn put_encoding(m: usize, k: usize, edges: &[u8], t: &[u8], out: &mut [u8]) -> usize
+    requires { ⌜ Joined m k (now edges) × Tallies (now t) × (k ≤ maxEdges) × (endOf m k ≤ length (now out)) ⌝ }
+    ensures { λ r. ⌜ (r ≡ endOf m k) × (now (out .exit) ≡ front (encode (entryHeld m k (now (edges .entry)))) (now (out .entry))) ⌝ }
+{
+    let n = bits::bytes_for(k);
+    build::write_fitting(m, k, &edges[..n], t, out);
+    build::length_of(m, k)
 }
 
 // Joins with the counting table, a queue and room for the edges of a difference lent.
@@ -174,7 +190,7 @@ fn join_with(
 // The bytes of a queue for each of n: sixteen flags.
 const QUEUE_BYTES: usize = 4;
 // The bytes behind them: a run put at the end takes eight, the flag of the root begins one more.
-const SPARE: usize = 8 + 1;
+pub const SPARE: usize = 8 + 1;
 
 // The greatest n of tiny encodings.
 pub const TINY: usize = 512;
@@ -198,7 +214,7 @@ const MIDDLE_QUEUE: usize = QUEUE_BYTES * MIDDLE + SPARE;
 const MIDDLE_EDGES: usize = MIDDLE + SPARE;
 
 // Of any, by the most edges.
-const LARGE: usize = Encoding::MAX_EDGES / 8;
+pub const LARGE: usize = Encoding::MAX_EDGES / 8;
 
 const LARGE_QUEUE: usize = QUEUE_BYTES * LARGE + SPARE;
 

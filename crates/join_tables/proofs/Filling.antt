@@ -1,13 +1,15 @@
 -- Tables filled entry by entry, and rules computed over all entries.
 use mathlib.Core.Path.{_≡_, refl, sym, ap, _∙_}
-use Prim.Native.Nat.{ℕ, _<_}
+use Prim.Native.Nat.{ℕ, _+_, _-_, _*_, _<_}
 use mathlib.Core.Bool.{Bool, true, false, false≢true}
-use mathlib.Core.List.{List}
+use mathlib.Core.List.{List, [], _∷_}
+use native.Mathlib.Omega.{arith}
 use lib.ListN.{length, getD, set, length-set}
 use lib.Dec.{eqb}
 use lib.Seq.{getD-set-same, getD-set-other}
 use Rattle.loes.proofs.Tests.{yes-eq, eq-yes}
 use Rattle.records.specs.Tables.{Ruled}
+use Rattle.join_tables.specs.Entries.{FilledFrom}
 use Rattle.records.proofs.Computed.{each, each-at}
 
 -- ---- A rule computed
@@ -41,3 +43,26 @@ four-right code t p q r s a b c d hp hq hr hs ea eb ec ed j k =
     set-right code t2 r c (simp length-set hr) ec j (λ nr.
     set-right code t1 q b (simp length-set hq) eb j (λ nq.
     set-right code t p a hp ea j (λ np. k np nq nr ns))))
+
+-- ---- Four entries a turn, in a row
+-- what code says of the entries of turn i
+abbrev pub Four : (ℕ → ℕ) → ℕ → List ℕ
+Four code i = code (4 * i) ∷ code (4 * i + 1) ∷ code (4 * i + 2) ∷ code (4 * i + 3) ∷ []
+
+-- before turn i: the four of each turn before, or the first entry
+abbrev pub Fours : (ℕ → ℕ) → ℕ → List ℕ → Type 0
+Fours code i t = FilledFrom code 0 (4 * i + (1 - i)) t
+
+-- before the first turn
+pub four-start : (code : ℕ → ℕ) (t : List ℕ) → 0 < length t → 0 ≡ code 0 → Fours code 0 (set t 0 0)
+four-start code t h e j l m = set-right code t 0 0 h e j (λ s. absurd (s (omega arith)))
+
+-- a turn
+pub four-turn : (code : ℕ → ℕ) (i a b c d : ℕ) (t : List ℕ) → 4 * i + 3 < length t → Fours code i t → a ∷ b ∷ c ∷ d ∷ [] ≡ Four code i
+    → Fours code (i + 1) (set (set (set (set t (4 * i) a) (4 * i + 1) b) (4 * i + 2) c) (4 * i + 3) d)
+four-turn code i a b c d t h p w =
+    let ea : a ≡ code (4 * i) = cc in
+    let eb : b ≡ code (4 * i + 1) = cc in
+    let ec : c ≡ code (4 * i + 2) = cc in
+    let ed : d ≡ code (4 * i + 3) = cc in
+    λ j l m. four-right code t (4 * i) (4 * i + 1) (4 * i + 2) (4 * i + 3) a b c d (omega arith) (omega arith) (omega arith) h ea eb ec ed j (λ n0 n1 n2 n3. p j l (omega arith))

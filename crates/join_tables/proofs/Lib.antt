@@ -2,3 +2,4 @@ pub mod Filling
 pub mod SpreadTable
 pub mod PartTable
 pub mod RunTable
+pub mod EdgedTable

@@ -1,6 +1,6 @@
 -- The table of parts: an entry from the entry of one record less, a row from those of two, and the rule, computed over the 256 entries.
 use mathlib.Core.Path.{_≡_, refl, ap, _∙_}
-use Prim.Native.Nat.{ℕ, _+_, _-_, _*_, _/_, _%_, _≤_, _<_}
+use Prim.Native.Nat.{ℕ, _+_, _*_, _/_, _%_, _≤_, _<_}
 use mathlib.Core.Bool.{true}
 use mathlib.Core.List.{List, [], _∷_}
 use native.Mathlib.Omega.{arith}
@@ -14,52 +14,40 @@ use Rattle.records.specs.Numbers.{recordsOf, bitsOf}
 use Rattle.records.specs.Tables.{keptBy, partsIn, partsOf, Parted}
 use Rattle.join_tables.specs.Entries.{FilledFrom, partMore, ownPart, partCode}
 use Rattle.records.proofs.Computed.{each, each-at}
-use Rattle.join_tables.proofs.Filling.{ruled, set-right, four-right}
+use Rattle.join_tables.proofs.Filling.{ruled, set-right, Four, Fours, four-start, four-turn}
 
 -- ---- The first sixteen
--- the four entries that a turn sets, and the values that it sets them to
-abbrev Codes : ℕ → List ℕ
-Codes i = partCode (4 * i) ∷ partCode (4 * i + 1) ∷ partCode (4 * i + 2) ∷ partCode (4 * i + 3) ∷ []
-
+-- the values that a turn sets its entries to
 abbrev Values : ℕ → List ℕ
 Values d = d ∷ (d + 1114369) ∷ (d + 16846864) ∷ (d + 268505361) ∷ []
 
--- these are the same: from an entry, the four of one record more
-part-four : (i : ℕ) → i < 4 → Values (partMore (partCode i)) ≡ Codes i
+-- these are right: from an entry, the four of one record more
+part-four : (i : ℕ) → i < 4 → Values (partMore (partCode i)) ≡ Four partCode i
 unfolding each partMore ownPart partCode
-part-four = each-at (λ i. Values (partMore (partCode i))) Codes 4 refl
+part-four = each-at (λ i. Values (partMore (partCode i))) (Four partCode) 4 refl
 
 -- they fit
 part-small : (i : ℕ) → i < 4 → ltb (partMore (partCode i) + 268505361) 4294967296 ≡ true
 unfolding each partMore ownPart partCode
 part-small = each-at (λ i. ltb (partMore (partCode i) + 268505361) 4294967296) (λ i. true) 4 refl
 
--- before turn i: the four of each turn before, or the first entry
-abbrev pub Parting : ℕ → List ℕ → Type 0
-Parting i t = FilledFrom partCode 0 (4 * i + (1 - i)) t
-
 -- before the first turn
-pub part-start : (t : List ℕ) → length t ≡ 256 → Parting 0 (set t 0 0)
+pub part-start : (t : List ℕ) → length t ≡ 256 → Fours partCode 0 (set t 0 0)
 unfolding partMore ownPart partCode
-part-start t n j a b = set-right partCode t 0 0 (omega arith) refl j (λ s. absurd (s (omega arith)))
+part-start t n = four-start partCode t (omega arith) refl
 
 -- the largest sum of a turn fits
-pub part-fits : (i : ℕ) (t : List ℕ) → i < 4 → Parting i t → getD t i 0 + bitAnd (getD t i 0) 4294905840 + 268505361 < 4294967296
+pub part-fits : (i : ℕ) (t : List ℕ) → i < 4 → Fours partCode i t → getD t i 0 + bitAnd (getD t i 0) 4294905840 + 268505361 < 4294967296
 unfolding partMore
 part-fits i t h p = rw (p i (omega arith) (omega arith)) (yes-lt _ _ (part-small i h))
 
 -- a turn
-pub part-turn : (i d : ℕ) (t : List ℕ) → length t ≡ 256 → i < 4 → Parting i t → d ≡ getD t i 0 + bitAnd (getD t i 0) 4294905840
-    → Parting (i + 1) (set (set (set (set t (4 * i) d) (4 * i + 1) (d + 1114369)) (4 * i + 2) (d + 16846864)) (4 * i + 3) (d + 268505361))
+pub part-turn : (i d : ℕ) (t : List ℕ) → length t ≡ 256 → i < 4 → Fours partCode i t → d ≡ getD t i 0 + bitAnd (getD t i 0) 4294905840
+    → Fours partCode (i + 1) (set (set (set (set t (4 * i) d) (4 * i + 1) (d + 1114369)) (4 * i + 2) (d + 16846864)) (4 * i + 3) (d + 268505361))
 unfolding partMore
 part-turn i d t n h p z =
-    let w : Values d ≡ Codes i = ap Values (z ∙ ap partMore (p i (omega arith) (omega arith))) ∙ part-four i h in
-    let a : d ≡ partCode (4 * i) = cc in
-    let b : d + 1114369 ≡ partCode (4 * i + 1) = cc in
-    let c : d + 16846864 ≡ partCode (4 * i + 2) = cc in
-    let e : d + 268505361 ≡ partCode (4 * i + 3) = cc in
-    λ j l m. four-right partCode t (4 * i) (4 * i + 1) (4 * i + 2) (4 * i + 3) d (d + 1114369) (d + 16846864) (d + 268505361)
-    (omega arith) (omega arith) (omega arith) (omega arith) a b c e j (λ n0 n1 n2 n3. p j l (omega arith))
+    four-turn partCode i d (d + 1114369) (d + 16846864) (d + 268505361) t (omega arith) p
+    (ap Values (z ∙ ap partMore (p i (omega arith) (omega arith))) ∙ part-four i h)
 
 -- ---- The rows behind
 -- an entry with two more records that have no edge

@@ -2,7 +2,7 @@
 ghost use mathlib.Core.Path.{_≡_};
 ghost use Prim.Native.Nat.{_+_, _*_, _<_, _≤_};
 ghost use lib.ListN.{length, getD};
-ghost use Rattle.records.specs.Tables.{spreadEntries, partEntries, runEntries, Spreads, Parted, Runs};
+ghost use Rattle.records.specs.Tables.{spreadEntries, partEntries, runEntries, edgedEntries, Spreads, Parted, Runs, Edged};
 ghost use Rattle.join_tables.specs.Entries.{FilledFrom, spreadIn, spreadCode, partCode, runCode};
 
 // How many entries each table has.
@@ -11,6 +11,8 @@ pub const SPREAD_ENTRIES: usize = 4096;
 pub const PART_ENTRIES: usize = 256;
 
 pub const RUN_ENTRIES: usize = 256;
+
+pub const EDGED_ENTRIES: usize = 256;
 
 // ---- Spread
 
@@ -153,7 +155,7 @@ fn fill_runs(t: &mut [u16])
     }
 }
 
-// ---- All three
+// ---- These three: a merge needs them
 pub fn fill(spreads: &mut [u8], parts: &mut [u32], runs: &mut [u16])
     requires { ⌜ (length (now spreads) ≡ spreadEntries) × (length (now parts) ≡ partEntries) × (length (now runs) ≡ runEntries) ⌝ }
     ensures { λ _. ⌜ Spreads (now (spreads .exit)) × Parted (now (parts .exit)) × Runs (now (runs .exit)) ⌝ }
@@ -161,4 +163,25 @@ pub fn fill(spreads: &mut [u8], parts: &mut [u32], runs: &mut [u16])
     fill_spread(spreads);
     fill_parts(parts);
     fill_runs(runs);
+}
+
+// ---- Edged: only what compacts needs it, so it is filled apart
+
+// Entry x: the run of the records of x that have an edge, four a turn, from that of one record less: the run itself, or with one more record behind.
+pub fn fill_edged(t: &mut [u16])
+    requires { ⌜ length (now t) ≡ edgedEntries ⌝ }
+    ensures { λ _. ⌜ Edged (now (t .exit)) ⌝ }
+{
+    t[0] = 0;
+    let mut i = 0;
+    while i < 64 {
+        let h = t[i];
+        let d = h + h % 256 * 3 + 512;
+        let at = 4 * i;
+        t[at] = h;
+        t[at + 1] = d + 1;
+        t[at + 2] = d + 2;
+        t[at + 3] = d + 3;
+        i += 1;
+    }
 }

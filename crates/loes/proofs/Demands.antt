@@ -15,7 +15,7 @@ use Rattle.loes.specs.Refusals.{outOfRange, test, firstOf}
 use Rattle.loes.specs.Read.{readTests, rejected, readingOf, read}
 use Rattle.loes.specs.Model as model
 use Rattle.loes.specs.Model.{refused, wroteKey, tells, isPresent, isAbsent, indexIs, rankIs, rangeIs, saying, writing, refusedOr, refusal, tested, answers, writesKey, keyIn, keyTest, belowTest, atMostTest, opens, countBefore, countUnder, prefixTests}
-use Rattle.loes.specs.Calls.{afterReading, reading, unionCall, differenceCall, openCall, containsCall, indexOfCall, keyAtCall, rankCall, lowerBoundCall, prefixCall}
+use Rattle.loes.specs.Calls.{afterReading, reading, unionCall, differenceCall, splitCall, openCall, containsCall, indexOfCall, keyAtCall, rankCall, lowerBoundCall, prefixCall}
 use Rattle.loes.specs.Cursor.{after, Cursor, noOffsets, nextIndex, goesToAfter, advance, advanceReading, advanceCall}
 use Rattle.loes.specs.Demands.{Refuses, AnswersAgree, Demands}
 use Rattle.loes.proofs.Tests.{lt-yes, lt-no}
@@ -23,9 +23,10 @@ use Rattle.loes.proofs.Reading.{read-encode, reads-exactly}
 use Rattle.loes.proofs.Navigation.{present-is, index-is}
 use Rattle.loes.proofs.Members.{smaller-at, inside-at}
 use Rattle.loes.proofs.Order.{bound-index, bound-none}
+use Rattle.loes.proofs.Splits.{one-of-three, split-counts, no-longer, split-itself}
 use Rattle.loes.proofs.Ranges.{member-range, range-all, range-key, under-halves}
 use Rattle.loes.proofs.Kept.{refusals-keep}
-use Rattle.loes.proofs.Histories.{reading-encode, pack-writes, union-writes, difference-writes, histories-agree}
+use Rattle.loes.proofs.Histories.{reading-encode, pack-writes, union-writes, difference-writes, split-writes, histories-agree}
 use Rattle.loes.proofs.Cursors.{right-none}
 use Rattle.loes.proofs.Walk.{went, whole-walk}
 
@@ -39,7 +40,7 @@ step-encode e c out f = rw (read-encode e f)
 
 -- bytes that are not read are refused by every call
 refuses : (l : Bytes) (k : ℕ) → firstOf (readTests l) ≡ some k → Refuses l k
-unfolding read readingOf openCall containsCall indexOfCall lowerBoundCall rankCall prefixCall keyAtCall unionCall differenceCall reading afterReading refusal advanceCall advanceReading
+unfolding read readingOf openCall containsCall indexOfCall lowerBoundCall rankCall prefixCall keyAtCall unionCall differenceCall splitCall reading afterReading refusal advanceCall advanceReading
 refuses l k z =
     let h : read l ≡ rejected k = rw z in
     record {
@@ -53,6 +54,8 @@ refuses l k z =
       step = λ c out. rw h;
       first = λ b out. (rw h, rw h);
       second = λ e out f. (rw (read-encode e f, h), rw (read-encode e f, h));
+      firstSplit = λ b x y z. rw h;
+      secondSplit = λ e x y z f. rw (read-encode e f, h);
     }
 
 -- what the model says of what is not refused
@@ -100,6 +103,11 @@ answers-agree =
       pack = pack-writes;
       union = union-writes;
       difference = difference-writes;
+      split = split-writes;
+      oneOfThree = one-of-three;
+      counts = split-counts;
+      noLonger = no-longer;
+      itself = split-itself;
       opening = open-encode;
       contains = λ e x f. reading-encode e [] _ f;
       indexOf = λ e x f. reading-encode e [] _ f;

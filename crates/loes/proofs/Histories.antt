@@ -2,7 +2,7 @@
 use mathlib.Core.Path.{_≡_, refl, sym, ap, ap₂, _∙_, fun-ext}
 use mathlib.Core.Logic.{_↔_}
 use Prim.Native.Nat.{ℕ, zero, suc, _≤_, _<_}
-use mathlib.Core.Bool.{Bool, true, false, _||_, not, false≢true, or-false}
+use mathlib.Core.Bool.{Bool, true, false, _&&_, _||_, not, false≢true}
 use mathlib.Core.List.{List, [], _∷_, _++_, map, map-append}
 use mathlib.Core.Option.{Option, none, some}
 use native.Mathlib.Omega.{arith}
@@ -11,15 +11,15 @@ use lib.Seq.{take-append-seam}
 use lib.Dec.{eqb, ltb}
 use Rattle.loes.specs.Limits.{maxWidth, maxEdges}
 use Rattle.loes.specs.Bytes.{Bytes, front}
-use Rattle.loes.specs.Keys.{Key, KeySet, anyOf, sameKey, sameBit, setOf, either, without}
+use Rattle.loes.specs.Keys.{Key, KeySet, anyOf, sameKey, sameBit, setOf, either, without, inBoth}
 use Rattle.loes.specs.Entry.{Entry, SameEntry, withSet, edgeCount, wrongWidth, tooManyEdges, Valid}
 use Rattle.loes.specs.Encode.{encode}
 use Rattle.loes.specs.Refusals.{Tests, test, firstOf}
 use Rattle.loes.specs.Read.{read}
-use Rattle.loes.specs.Model.{packTests, Answer, refused, wrote, wroteKey, indexIs, rankIs, rangeIs, isPresent, isAbsent, isNone, isPosted, tells, OutcomeOf, Outcome, StepOf, Step, refusal, refusedOr, tested, fronts, anyShort, writes, writesKey, answers, keyIn, batchKeys, batchEntry, joinTests, unionEntry, differenceEntry, pack, union, difference, contains, indexOf, keyAt, rankAt, lowerBound, prefix}
-use Rattle.loes.specs.Calls.{afterReading, reading, packCall, unionCall, differenceCall, containsCall, indexOfCall, keyAtCall, rankCall, lowerBoundCall, prefixCall}
-use Rattle.loes.specs.History.{Call, doPack, doUnion, doDifference, askContains, askIndexOf, askLowerBound, askKeyAt, askRank, askPrefix, atPlace, modelCall, addedBy, outcomeOf, modelFrom, modelSays, storeCall, cut, writtenWith, writtenBy, storeFrom, storeSays, modelAfter, storeAfter}
-use Rattle.loes.specs.Demands.{Writes, noEntry, HistoriesAgree}
+use Rattle.loes.specs.Model.{packTests, Answer, refused, wrote, wroteKey, indexIs, rankIs, rangeIs, isPresent, isAbsent, isNone, isPosted, tells, OutcomeOf, Outcome, StepOf, Step, writingAll, refusal, refusedOr, tested, fronts, anyShort, writes, writesKey, answers, keyIn, batchKeys, batchEntry, joinTests, unionEntry, differenceEntry, bothEntry, pack, union, difference, split, contains, indexOf, keyAt, rankAt, lowerBound, prefix}
+use Rattle.loes.specs.Calls.{afterReading, reading, packCall, unionCall, differenceCall, splitCall, containsCall, indexOfCall, keyAtCall, rankCall, lowerBoundCall, prefixCall}
+use Rattle.loes.specs.History.{Call, doPack, doUnion, doDifference, doSplit, askContains, askIndexOf, askLowerBound, askKeyAt, askRank, askPrefix, atPlace, modelCall, addedBy, outcomeOf, modelFrom, modelSays, storeCall, cut, writtenWith, writtenBy, storeFrom, storeSays, modelAfter, storeAfter}
+use Rattle.loes.specs.Demands.{Fit, Fronts, Writes, noEntry, HistoriesAgree}
 use Rattle.loes.proofs.Tests.{lt-no, no-lt, yes-eq, neither, not-false, both, none-append, none-test, none-first}
 use Rattle.loes.proofs.Lists.{getD-map-in}
 use Rattle.loes.proofs.Bits.{length-bitsIn}
@@ -71,6 +71,9 @@ call-agree t (doUnion i j out) h =
 call-agree t (doDifference i j out) h =
     two-agree t i j (λ a b. differenceCall a b out) (λ e f. difference e f out) h
     (λ e f g k. unfold differenceCall in rw (reading-encode e (out ∷ []) _ g, reading-encode f (out ∷ []) _ k))
+call-agree t (doSplit i j x y z) h =
+    two-agree t i j (λ a b. splitCall a b x y z) (λ e f. split e f x y z) h
+    (λ e f g k. unfold splitCall in rw (reading-encode e (x ∷ y ∷ z ∷ []) _ g, reading-encode f (x ∷ y ∷ z ∷ []) _ k))
 call-agree t (askContains i x) h =
     one-agree t i (λ a. containsCall a x) (λ e. contains e x) h (λ e g. unfold containsCall in reading-encode e [] _ g)
 call-agree t (askIndexOf i x) h =
@@ -111,6 +114,13 @@ all-valid [] h z = tt
 all-valid (e ∷ es) h z =
     let r = neither (ltb maxEdges (edgeCount e)) (anyOf (λ (e : Entry). tooManyEdges (edgeCount e)) es) z in
     (h .0 (no-lt maxEdges (edgeCount e) (r .0)), all-valid es (h .1) (r .1))
+
+-- each encoding stands at the front of its buffer, and its length cuts it out again
+fronts-are : (es : List Entry) (bufs : List Bytes) → fronts (map encode es) bufs ≡ Fronts es bufs
+unfolding fronts
+fronts-are [] bufs = refl
+fronts-are (e ∷ es) [] = refl
+fronts-are (e ∷ es) (out ∷ bufs) = ap (λ l. front (encode e) out ∷ l) (fronts-are es bufs)
 
 cut-fronts : (es : List Entry) (bufs : List Bytes) → anyShort (map encode es) bufs ≡ false
     → map encode es ≡ cut (map (λ (e : Entry). length (encode e)) es) (fronts (map encode es) bufs)
@@ -154,7 +164,7 @@ key-kept : (ts : Tests) (t : ℕ) (k : Key) (out : Bytes) → Kept (writesKey ts
 unfolding writesKey
 key-kept ts t k out = tested-kept _ _ _ (λ z. unfold writtenWith in (tt, refl))
 
--- ---- The sets that pack, union and difference name have keys of their width only
+-- ---- The sets that pack, union, difference and split name have keys of their width only
 same-length : (j k : Key) → sameKey j k ≡ true → length j ≡ length k
 unfolding sameKey
 same-length [] [] h = refl
@@ -206,9 +216,20 @@ union-valid e f g h z =
     valid-like e (either (e .set) (f .set)) g
     (λ k i. or-else (e .set k) (f .set k) (length k ≡ e .width) (g .sized k) (λ j. h .sized k j ∙ sym (joined-same e f z)) i)
 
+-- a part of a set: those of its keys that a test takes
+part-valid : (e : Entry) (p : KeySet) → Valid e → edgeCount (withSet e (λ (k : Key). e .set k && p k)) ≤ maxEdges → Valid (withSet e (λ (k : Key). e .set k && p k))
+part-valid e p g = valid-like e (λ k. e .set k && p k) g (λ k i. g .sized k (both (e .set k) (p k) i .0))
+
 pub difference-valid : (e f : Entry) → Valid e → edgeCount (differenceEntry e f) ≤ maxEdges → Valid (differenceEntry e f)
 unfolding without
-difference-valid e f g = valid-like e (without (e .set) (f .set)) g (λ k i. g .sized k (both (e .set k) (not (f .set k)) i .0))
+difference-valid e f = part-valid e (λ k. not (f .set k))
+
+pub both-valid : (e f : Entry) → Valid e → edgeCount (bothEntry e f) ≤ maxEdges → Valid (bothEntry e f)
+unfolding inBoth
+both-valid e f = part-valid e (f .set)
+
+split-valid : (e f : Entry) → Valid e → Valid f → AllValidIf (bothEntry e f ∷ differenceEntry e f ∷ differenceEntry f e ∷ [])
+split-valid e f g h = (both-valid e f g, (difference-valid e f g, (difference-valid f e h, tt)))
 
 union-kept : (e f : Entry) (out : Bytes) → Valid e → Valid f → Kept (union e f out)
 unfolding union
@@ -219,6 +240,10 @@ difference-kept : (e f : Entry) (out : Bytes) → Valid e → Valid f → Kept (
 unfolding difference
 difference-kept e f out g h =
     writes-kept (joinTests e f) (differenceEntry e f ∷ []) (out ∷ []) (λ z. (difference-valid e f g, tt))
+
+split-kept : (e f : Entry) (x y z : Bytes) → Valid e → Valid f → Kept (split e f x y z)
+unfolding split
+split-kept e f x y z g h = writes-kept (joinTests e f) _ (x ∷ y ∷ z ∷ []) (λ i. split-valid e f g h)
 
 atPlace-kept : (t : List Entry) (i : ℕ) (q : Entry → Option Step) → AllValid t → ((e : Entry) → Valid e → KeptIf (q e)) → KeptIf (atPlace t i q)
 unfolding atPlace
@@ -231,6 +256,7 @@ unfolding modelCall
 call-kept t (doPack m batch out) h = pack-kept m batch out
 call-kept t (doUnion i j out) h = atPlace-kept t i _ h (λ e g. atPlace-kept t j _ h (λ f k. union-kept e f out g k))
 call-kept t (doDifference i j out) h = atPlace-kept t i _ h (λ e g. atPlace-kept t j _ h (λ f k. difference-kept e f out g k))
+call-kept t (doSplit i j x y z) h = atPlace-kept t i _ h (λ e g. atPlace-kept t j _ h (λ f k. split-kept e f x y z g k))
 call-kept t (askContains i x) h = atPlace-kept t i _ h (λ e g. unfold contains in answers-kept _ _)
 call-kept t (askIndexOf i x) h = atPlace-kept t i _ h (λ e g. unfold indexOf in answers-kept _ _)
 call-kept t (askLowerBound i x) h = atPlace-kept t i _ h (λ e g. unfold lowerBound in answers-kept _ _)
@@ -247,37 +273,59 @@ tested-only ts bufs done h = go (firstOf ts) refl h
     go none z h = z
     go (some k) z h = unfold refusedOr refusal in absurd (h k refl)
 
-writes-one : (ts : Tests) (e : Entry) (out : Bytes) → (firstOf ts ≡ none → edgeCount e ≤ maxEdges → Valid e) → Writes ts e out (writes ts (e ∷ []) (out ∷ []) .outcome)
-unfolding writes tested fronts anyOf anyShort tooManyEdges
-writes-one ts e out f =
+-- what fits has neither too many edges nor a buffer too short, and back
+fit-few : (es : List Entry) (bufs : List Bytes) → Fit es bufs → anyOf (λ (e : Entry). tooManyEdges (edgeCount e)) es ≡ false
+unfolding anyOf tooManyEdges
+fit-few [] bufs h = refl
+fit-few (e ∷ es) [] h = absurd h
+fit-few (e ∷ es) (out ∷ bufs) h = rw (lt-no maxEdges (edgeCount e) (h .0 .few)) (fit-few es bufs (h .2))
+
+fit-long : (es : List Entry) (bufs : List Bytes) → Fit es bufs → anyShort (map encode es) bufs ≡ false
+unfolding anyShort
+fit-long [] bufs h = refl
+fit-long (e ∷ es) [] h = absurd h
+fit-long (e ∷ es) (out ∷ bufs) h = rw (lt-no (length out) (length (encode e)) (h .1)) (fit-long es bufs (h .2))
+
+long-fit : (es : List Entry) (bufs : List Bytes) → AllValid es → anyShort (map encode es) bufs ≡ false → Fit es bufs
+unfolding anyShort
+long-fit [] bufs h z = tt
+long-fit (e ∷ es) [] h z = absurd (false≢true (sym z))
+long-fit (e ∷ es) (out ∷ bufs) h z =
+    let r = neither (ltb (length out) (length (encode e))) (anyShort (map encode es) bufs) z in
+    (h .0, no-lt (length out) (length (encode e)) (r .0), long-fit es bufs (h .1) (r .1))
+
+writes-several : (ts : Tests) (es : List Entry) (bufs : List Bytes) → (firstOf ts ≡ none → AllValidIf es) → Writes ts es bufs (writes ts es bufs .outcome)
+unfolding writes tested
+writes-several ts es bufs f =
     record {
-      turned = λ k z. rw (or-false (ltb maxEdges (edgeCount e)), or-false (ltb (length out) (length (encode e))), z) (unfold refusedOr refusal in refl);
-      accepted = λ z v r.
-          rw (none-first ts _ z, lt-no maxEdges (edgeCount e) (v .few), lt-no (length out) (length (encode e)) r)
-          (unfold firstOf test refusedOr in refl);
+      turned = λ k z. rw z (unfold refusedOr refusal in refl);
+      accepted = λ z v. rw (none-first ts _ z, fit-few es bufs v, fit-long es bufs v) (unfold firstOf test refusedOr in ap (λ l. writingAll (wrote (map (λ (e : Entry). length (encode e)) es)) l) (fronts-are es bufs));
       only = λ h.
-          let a = none-append ts _ (tested-only _ (out ∷ []) _ h) in
+          let a = none-append ts _ (tested-only _ bufs _ h) in
           let b = none-test _ _ _ (a .1) in
           let c = none-test _ _ _ (b .1) in
-          let few = neither (ltb maxEdges (edgeCount e)) false (b .0) in
-          let room = neither (ltb (length out) (length (encode e))) false (c .0) in
-          (a .0, f (a .0) (no-lt maxEdges (edgeCount e) (few .0)), no-lt (length out) (length (encode e)) (room .0));
+          (a .0, long-fit es bufs (all-valid es (f (a .0)) (b .0)) (c .0));
     }
 
-pub pack-writes : (m : ℕ) (batch out : Bytes) → Writes (packTests m batch) (batchEntry m batch) out (packCall m batch out)
+pub pack-writes : (m : ℕ) (batch out : Bytes) → Writes (packTests m batch) (batchEntry m batch ∷ []) (out ∷ []) (packCall m batch out)
 unfolding packCall pack packTests
-pack-writes m batch out = writes-one (packTests m batch) (batchEntry m batch) out (λ z. pack-valid m batch (none-test (wrongWidth m) _ _ z .0))
+pack-writes m batch out = writes-several (packTests m batch) _ (out ∷ []) (λ z. (pack-valid m batch (none-test (wrongWidth m) _ _ z .0), tt))
 
-pub union-writes : (e f : Entry) (out : Bytes) → Valid e → Valid f → Writes (joinTests e f) (unionEntry e f) out (unionCall (encode e) (encode f) out)
+pub union-writes : (e f : Entry) (out : Bytes) → Valid e → Valid f → Writes (joinTests e f) (unionEntry e f ∷ []) (out ∷ []) (unionCall (encode e) (encode f) out)
 unfolding unionCall union
 union-writes e f out g h =
-    rw (reading-encode e (out ∷ []) _ g, reading-encode f (out ∷ []) _ h) (writes-one (joinTests e f) (unionEntry e f) out (union-valid e f g h))
+    rw (reading-encode e (out ∷ []) _ g, reading-encode f (out ∷ []) _ h) (writes-several (joinTests e f) _ (out ∷ []) (λ z. (union-valid e f g h z, tt)))
 
-pub difference-writes : (e f : Entry) (out : Bytes) → Valid e → Valid f → Writes (joinTests e f) (differenceEntry e f) out (differenceCall (encode e) (encode f) out)
+pub difference-writes : (e f : Entry) (out : Bytes) → Valid e → Valid f → Writes (joinTests e f) (differenceEntry e f ∷ []) (out ∷ []) (differenceCall (encode e) (encode f) out)
 unfolding differenceCall difference
 difference-writes e f out g h =
-    rw (reading-encode e (out ∷ []) _ g, reading-encode f (out ∷ []) _ h)
-    (writes-one (joinTests e f) (differenceEntry e f) out (λ z. difference-valid e f g))
+    rw (reading-encode e (out ∷ []) _ g, reading-encode f (out ∷ []) _ h) (writes-several (joinTests e f) _ (out ∷ []) (λ z. (difference-valid e f g, tt)))
+
+pub split-writes : (e f : Entry) (x y z : Bytes) → Valid e → Valid f
+    → Writes (joinTests e f) (bothEntry e f ∷ differenceEntry e f ∷ differenceEntry f e ∷ []) (x ∷ y ∷ z ∷ []) (splitCall (encode e) (encode f) x y z)
+unfolding splitCall split
+split-writes e f x y z g h =
+    rw (reading-encode e (x ∷ y ∷ z ∷ []) _ g, reading-encode f (x ∷ y ∷ z ∷ []) _ h) (writes-several (joinTests e f) _ (x ∷ y ∷ z ∷ []) (λ i. split-valid e f g h))
 
 -- ---- The whole list
 kept-encodes : (o : Option Step) → KeptIf o → writtenBy (outcomeOf o) ≡ map encode (addedBy o)

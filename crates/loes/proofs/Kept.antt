@@ -8,8 +8,8 @@ use Rattle.loes.specs.Bytes.{Bytes}
 use Rattle.loes.specs.Entry.{Entry}
 use Rattle.loes.specs.Refusals.{Tests, firstOf}
 use Rattle.loes.specs.Read.{Reading, rejected, opened, read}
-use Rattle.loes.specs.Model.{Answer, refused, wrote, wroteKey, indexIs, rankIs, rangeIs, isPresent, isAbsent, isNone, isPosted, tells, OutcomeOf, StepOf, refusal, refusedOr, tested, writes, writesKey, pack, union, difference, keyAt}
-use Rattle.loes.specs.Calls.{afterReading, reading, packCall, unionCall, differenceCall, keyAtCall}
+use Rattle.loes.specs.Model.{Answer, refused, wrote, wroteKey, indexIs, rankIs, rangeIs, isPresent, isAbsent, isNone, isPosted, tells, OutcomeOf, StepOf, refusal, refusedOr, tested, writes, writesKey, pack, union, difference, split, keyAt}
+use Rattle.loes.specs.Calls.{afterReading, reading, packCall, unionCall, differenceCall, splitCall, keyAtCall}
 use Rattle.loes.specs.Demands.{Keeps, RefusalsKeep}
 use Rattle.loes.specs.Cursor.{Cursor, Advanced, staysOr, stays, hasNext, nextKey, goesTo, goesToAfter, advance, advanceReading, advanceCall}
 
@@ -62,12 +62,13 @@ advanced-keeps e p out k h =
     if-keeps _ p out _ (elim (hasNext e p) as (λ b. Accepts (cond b (goesTo e (nextKey e p) out) (goesToAfter out) .answer)) [ true ↦ tt | false ↦ tt ]) k h
 
 pub refusals-keep : RefusalsKeep
-unfolding packCall pack unionCall union differenceCall difference keyAtCall keyAt advanceCall
+unfolding packCall pack unionCall union differenceCall difference splitCall split keyAtCall keyAt advanceCall
 refusals-keep =
     record {
       pack = λ m batch out. writes-keeps _ _ (out ∷ []);
       union = λ a b out. reading-keeps a (out ∷ []) _ (λ e. reading-keeps b (out ∷ []) _ (λ f. writes-keeps _ _ (out ∷ [])));
       difference = λ a b out. reading-keeps a (out ∷ []) _ (λ e. reading-keeps b (out ∷ []) _ (λ f. writes-keeps _ _ (out ∷ [])));
+      split = λ a b x y z. let bufs : List Bytes = x ∷ y ∷ z ∷ [] in reading-keeps a bufs _ (λ e. reading-keeps b bufs _ (λ f. writes-keeps _ _ bufs));
       keyAt = λ a i out. reading-keeps a (out ∷ []) _ (λ e. key-keeps _ _ _ out);
       step = λ a p out. given-keeps p out (read a);
     }

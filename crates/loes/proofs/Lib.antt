@@ -15,6 +15,7 @@ pub mod Seven
 pub mod Members
 pub mod Writes
 pub mod Histories
+pub mod Splits
 pub mod Order
 pub mod Ranges
 pub mod Cursors

@@ -1,10 +1,10 @@
 -- The calls on bytes: the refusal of an encoding, or what the model answers for its entry. Public functions promise these.
 use Prim.Native.Nat.{ℕ}
-use mathlib.Core.List.{[], _∷_}
+use mathlib.Core.List.{List, [], _∷_}
 use Rattle.loes.specs.Bytes.{Bytes}
 use Rattle.loes.specs.Entry.{Entry}
 use Rattle.loes.specs.Read.{Reading, rejected, opened, read}
-use Rattle.loes.specs.Model.{OutcomeOf, Outcome, refusal, pack, union, difference, opens, contains, indexOf, keyAt, rankAt, lowerBound, prefix}
+use Rattle.loes.specs.Model.{OutcomeOf, Outcome, refusal, pack, union, difference, split, opens, contains, indexOf, keyAt, rankAt, lowerBound, prefix}
 
 -- refused with the reading's number, every buffer kept, or what follows for the entry
 unfoldable pub afterReading : {L : Type 0} → Reading → L → (Entry → OutcomeOf L) → OutcomeOf L
@@ -23,6 +23,11 @@ unionCall a b out = reading a (out ∷ []) λ e. reading b (out ∷ []) λ f. un
 
 unfoldable pub differenceCall : Bytes → Bytes → Bytes → Outcome
 differenceCall a b out = reading a (out ∷ []) λ e. reading b (out ∷ []) λ f. difference e f out .outcome
+
+unfoldable pub splitCall : Bytes → Bytes → Bytes → Bytes → Bytes → Outcome
+splitCall a b both onlyFirst onlySecond =
+    let bufs : List Bytes = both ∷ onlyFirst ∷ onlySecond ∷ [] in
+    reading a bufs λ e. reading b bufs λ f. split e f both onlyFirst onlySecond .outcome
 
 unfoldable pub openCall : Bytes → Outcome
 openCall l = reading l [] λ e. opens e .outcome

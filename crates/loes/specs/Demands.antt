@@ -1,23 +1,22 @@
 -- What the demands say of the calls on bytes, as propositions with no hypothesis, and all of them as one, `Demands`. The proof is proofs/Demands.antt.
 use mathlib.Core.Path.{_≡_}
 use mathlib.Core.Logic.{_↔_}
-use Prim.Native.Nat.{ℕ, _+_, _<_, _≤_}
+use Prim.Native.Nat.{ℕ, _+_, _*_, _<_, _≤_}
 use mathlib.Core.Bool.{true, false, cond}
 use mathlib.Core.List.{List, [], _∷_, _++_, map}
 use mathlib.Core.Option.{none, some}
 use lib.ListN.{length, getD}
-use lib.Dec.{ltb}
 use Rattle.loes.specs.Bytes.{Bytes, bit, packBits, front}
-use Rattle.loes.specs.Keys.{Key, KeySet, less, isPrefix, members, smaller}
+use Rattle.loes.specs.Keys.{Key, KeySet, less, anyOf, isPrefix, members, smaller}
 use Rattle.loes.specs.Edges as sequence
 use Rattle.loes.specs.Edges.{edges, present, edgeIndex}
-use Rattle.loes.specs.Entry.{Entry, keyBytes, keysOf, count, edgesOf, edgeCount, tooManyEdges, SameEntry, Valid}
+use Rattle.loes.specs.Entry.{Entry, keyBytes, keysOf, count, edgesOf, edgeCount, withSet, tooManyEdges, SameEntry, Valid}
 use Rattle.loes.specs.Encode.{encode}
 use Rattle.loes.specs.Refusals.{tooLarge, outOfRange, shortBuffer, Tests, test, firstOf}
 use Rattle.loes.specs.Read.{readTests, opened, read}
 use Rattle.loes.specs.Model as model
-use Rattle.loes.specs.Model.{refused, wrote, wroteKey, tells, isPresent, isAbsent, isNone, indexIs, rankIs, rangeIs, OutcomeOf, Outcome, saying, writing, keyIn, keyTest, packTests, batchEntry, joinTests, unionEntry, differenceEntry, countBefore, countUnder}
-use Rattle.loes.specs.Calls.{packCall, unionCall, differenceCall, openCall, containsCall, indexOfCall, keyAtCall, rankCall, lowerBoundCall, prefixCall}
+use Rattle.loes.specs.Model.{refused, wrote, wroteKey, tells, isPresent, isAbsent, isNone, indexIs, rankIs, rangeIs, OutcomeOf, Outcome, saying, writing, writingAll, anyShort, keyIn, keyTest, packTests, batchEntry, joinTests, unionEntry, differenceEntry, bothEntry, countBefore, countUnder}
+use Rattle.loes.specs.Calls.{packCall, unionCall, differenceCall, splitCall, openCall, containsCall, indexOfCall, keyAtCall, rankCall, lowerBoundCall, prefixCall}
 use Rattle.loes.specs.Cursor.{before, after, Cursor, noOffsets, stays, goesToAfter, advance, advanceCall}
 use Rattle.loes.specs.Walk.{walk, visits, Roomy}
 use Rattle.loes.specs.History.{Call, modelSays, storeSays, modelAfter, storeAfter}
@@ -30,18 +29,31 @@ pub record RefusalsKeep : Type 0 where
   pub pack : (m : ℕ) (batch out : Bytes) → Keeps (packCall m batch out) (out ∷ [])
   pub union : (a b out : Bytes) → Keeps (unionCall a b out) (out ∷ [])
   pub difference : (a b out : Bytes) → Keeps (differenceCall a b out) (out ∷ [])
+  pub split : (a b both onlyFirst onlySecond : Bytes) → Keeps (splitCall a b both onlyFirst onlySecond) (both ∷ onlyFirst ∷ onlySecond ∷ [])
   pub keyAt : (l : Bytes) (i : ℕ) (out : Bytes) → Keeps (keyAtCall l i out) (out ∷ [])
   pub step : (l : Bytes) (c : Cursor) (out : Bytes) (k : ℕ) → advanceCall l c out .answer ≡ refused k
       → (advanceCall l c out .buffer ≡ out) × (advanceCall l c out .cursor ≡ c)
 
 -- ---- Demand 2: encodings are read, written and questioned as plain sets are
--- a call with these tests that writes one entry: its tests, 5 and 14, of which the first that holds gives its number; it is accepted exactly if the entry is within the limits and none holds,
--- and then the encoding stands at the front of the buffer, and its length is returned
-pub record Writes (ts : Tests) (e : Entry) (out : Bytes) (o : Outcome) : Type 0 where
-  pub turned : (k : ℕ) → firstOf (ts ++ test (tooManyEdges (edgeCount e)) tooLarge ∷ test (ltb (length out) (length (encode e))) shortBuffer ∷ []) ≡ some k
-      → o ≡ writing (refused k) out
-  pub accepted : firstOf ts ≡ none → Valid e → length (encode e) ≤ length out → o ≡ writing (wrote (length (encode e) ∷ [])) (front (encode e) out)
-  pub only : ((k : ℕ) → o .answer ≡ refused k → ⊥) → (firstOf ts ≡ none) × Valid e × (length (encode e) ≤ length out)
+-- each entry is within the limits, and its buffer has room for its encoding
+abbrev pub Fit : List Entry → List Bytes → Type 0
+Fit [] bufs = Unit {0}
+Fit (e ∷ es) [] = ⊥
+Fit (e ∷ es) (out ∷ bufs) = Valid e × (length (encode e) ≤ length out) × Fit es bufs
+
+-- the encodings of entries, each at the front of its buffer; what is behind keeps its value
+abbrev pub Fronts : List Entry → List Bytes → List Bytes
+Fronts [] bufs = bufs
+Fronts (e ∷ es) [] = []
+Fronts (e ∷ es) (out ∷ bufs) = front (encode e) out ∷ Fronts es bufs
+
+-- a call with these tests that writes entries, each to its own buffer: its tests, then 5 and 14 of any of them, of which the first that holds gives its number, and every buffer stays; it is accepted exactly if none of its
+-- tests holds and all fit, and then each encoding stands at the front of its buffer, and their lengths are returned in order
+pub record Writes (ts : Tests) (es : List Entry) (bufs : List Bytes) (o : Outcome) : Type 0 where
+  pub turned : (k : ℕ) → firstOf (ts ++ test (anyOf (λ (e : Entry). tooManyEdges (edgeCount e)) es) tooLarge ∷ test (anyShort (map encode es) bufs) shortBuffer ∷ []) ≡ some k
+      → o ≡ writingAll (refused k) bufs
+  pub accepted : firstOf ts ≡ none → Fit es bufs → o ≡ writingAll (wrote (map (λ (e : Entry). length (encode e)) es)) (Fronts es bufs)
+  pub only : ((k : ℕ) → o .answer ≡ refused k → ⊥) → (firstOf ts ≡ none) × Fit es bufs
 
 -- every call that is given these bytes is refused with k, and changes nothing; of two encodings the first is read first
 pub record Refuses (l : Bytes) (k : ℕ) : Type 0 where
@@ -55,15 +67,25 @@ pub record Refuses (l : Bytes) (k : ℕ) : Type 0 where
   pub step : (c : Cursor) (out : Bytes) → advanceCall l c out ≡ stays k c out
   pub first : (b out : Bytes) → (unionCall l b out ≡ writing (refused k) out) × (differenceCall l b out ≡ writing (refused k) out)
   pub second : (e : Entry) (out : Bytes) → Valid e → (unionCall (encode e) l out ≡ writing (refused k) out) × (differenceCall (encode e) l out ≡ writing (refused k) out)
+  pub firstSplit : (b x y z : Bytes) → splitCall l b x y z ≡ writingAll (refused k) (x ∷ y ∷ z ∷ [])
+  pub secondSplit : (e : Entry) (x y z : Bytes) → Valid e → splitCall (encode e) l x y z ≡ writingAll (refused k) (x ∷ y ∷ z ∷ [])
 
 pub record AnswersAgree : Type 0 where
   -- bytes are accepted exactly if they are the encoding of a set within the limits, and are read as that set; others are refused by every call, with the number of the first test that holds
   pub reads : (l : Bytes) (e : Entry) → (read l ≡ opened e) ↔ (Valid e × (l ≡ encode e))
   pub damaged : (l : Bytes) (k : ℕ) → firstOf (readTests l) ≡ some k → Refuses l k
-  -- pack, union and difference write the encoding of the set that they name
-  pub pack : (m : ℕ) (batch out : Bytes) → Writes (packTests m batch) (batchEntry m batch) out (packCall m batch out)
-  pub union : (e f : Entry) (out : Bytes) → Valid e → Valid f → Writes (joinTests e f) (unionEntry e f) out (unionCall (encode e) (encode f) out)
-  pub difference : (e f : Entry) (out : Bytes) → Valid e → Valid f → Writes (joinTests e f) (differenceEntry e f) out (differenceCall (encode e) (encode f) out)
+  -- pack, union and difference write the encoding of the set that they name, split those of three
+  pub pack : (m : ℕ) (batch out : Bytes) → Writes (packTests m batch) (batchEntry m batch ∷ []) (out ∷ []) (packCall m batch out)
+  pub union : (e f : Entry) (out : Bytes) → Valid e → Valid f → Writes (joinTests e f) (unionEntry e f ∷ []) (out ∷ []) (unionCall (encode e) (encode f) out)
+  pub difference : (e f : Entry) (out : Bytes) → Valid e → Valid f → Writes (joinTests e f) (differenceEntry e f ∷ []) (out ∷ []) (differenceCall (encode e) (encode f) out)
+  pub split : (e f : Entry) (both onlyFirst onlySecond : Bytes) → Valid e → Valid f
+      → Writes (joinTests e f) (bothEntry e f ∷ differenceEntry e f ∷ differenceEntry f e ∷ []) (both ∷ onlyFirst ∷ onlySecond ∷ []) (splitCall (encode e) (encode f) both onlyFirst onlySecond)
+  -- (a key of either set is in exactly one of the three, and no other key is in any; twice the first count and the other two are both sets' counts; no part's encoding is longer than its set's; a set split with itself
+  -- is itself, and twice the empty set)
+  pub oneOfThree : (e f : Entry) (k : Key) → bit (bothEntry e f .set k) + bit (differenceEntry e f .set k) + bit (differenceEntry f e .set k) ≡ bit (unionEntry e f .set k)
+  pub counts : (e f : Entry) → e .width ≡ f .width → 2 * count (bothEntry e f) + count (differenceEntry e f) + count (differenceEntry f e) ≡ count e + count f
+  pub noLonger : (e f : Entry) → (length (encode (bothEntry e f)) ≤ length (encode e)) × (length (encode (differenceEntry e f)) ≤ length (encode e))
+  pub itself : (e : Entry) → (encode (bothEntry e e) ≡ encode e) × (encode (differenceEntry e e) ≡ encode (withSet e (λ (k : Key). false)))
   -- opening an encoding, each question put to it, and a step over it, answer what its set does
   pub opening : (e : Entry) → Valid e → openCall (encode e) ≡ saying (tells (e .width) (count e) (edgeCount e))
   pub contains : (e : Entry) (x : Bytes) → Valid e → containsCall (encode e) x ≡ model.contains e x .outcome

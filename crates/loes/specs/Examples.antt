@@ -14,8 +14,8 @@ use Rattle.loes.specs.Entry.{Entry, edgesOf, edgeCount, tooManyEdges, Va
 use Rattle.loes.specs.Encode.{blockOnes, subBlockOnes, encode}
 use Rattle.loes.specs.Refusals.{firstOf}
 use Rattle.loes.specs.Read.{endOf}
-use Rattle.loes.specs.Model.{Answer, refused, wrote, wroteKey, tells, isAbsent, isNone, indexIs, rankIs, rangeIs, saying, writing, packTests, batchEntry, unionEntry}
-use Rattle.loes.specs.Calls.{packCall, unionCall, differenceCall, openCall, containsCall, indexOfCall, keyAtCall, rankCall, lowerBoundCall, prefixCall}
+use Rattle.loes.specs.Model.{Answer, refused, wrote, wroteKey, tells, isAbsent, isNone, indexIs, rankIs, rangeIs, saying, writing, writingAll, packTests, batchEntry, unionEntry}
+use Rattle.loes.specs.Calls.{packCall, unionCall, differenceCall, splitCall, openCall, containsCall, indexOfCall, keyAtCall, rankCall, lowerBoundCall, prefixCall}
 use Rattle.loes.specs.Cursor.{State, before, at, after, Cursor, cursorWith, padded, Advanced, advanceCall}
 
 -- ---- Words of the statements
@@ -45,6 +45,10 @@ right = entryOf 3 ((false ∷ true ∷ true ∷ []) ∷ (true ∷ true ∷ false
 
 abbrev pub three : Entry
 three = entryOf 3 ((false ∷ false ∷ false ∷ []) ∷ (false ∷ true ∷ true ∷ []) ∷ (true ∷ true ∷ false ∷ []) ∷ [])
+
+-- width 3, one key
+abbrev pub oneOf : Key → Entry
+oneOf k = entryOf 3 (k ∷ [])
 
 -- width 3, all eight keys
 abbrev pub eight : Entry
@@ -132,6 +136,10 @@ pub record FurtherExamples : Type 0 where
   pub prefix-4 : prefixCall P2 4 (0x60 ∷ []) ≡ saying (refused 9)
   pub prefix-long : prefixCall P2 0 (0x00 ∷ []) ≡ saying (refused 8)
   pub prefix-unused : prefixCall P2 2 (0x60 ∷ []) ≡ saying (refused 8)
+  pub split-three : splitCall (encode left) (encode right) (room 47) (room 48) (room 49)
+      ≡ writingAll (wrote (47 ∷ 47 ∷ 47 ∷ [])) (encode (oneOf (false ∷ true ∷ true ∷ [])) ∷ (encode (oneOf (false ∷ false ∷ false ∷ [])) ++ room 1) ∷ (encode (oneOf (true ∷ true ∷ false ∷ [])) ++ room 2) ∷ [])
+  pub split-itself : splitCall P2 P2 (room 48) (room 36) (room 36) ≡ writingAll (wrote (48 ∷ 36 ∷ 36 ∷ [])) (P2 ∷ P1 ∷ P1 ∷ [])
+  pub split-short : splitCall P2 P2 (room 48) (room 36) (room 35) ≡ writingAll (refused 14) (room 48 ∷ room 36 ∷ room 35 ∷ [])
   pub ragged : packCall 9 (0 ∷ 0 ∷ 0 ∷ []) (room 1) ≡ writing (refused 10) (room 1)
   pub unused : packCall 3 (0x60 ∷ 0x01 ∷ []) (room 1) ≡ writing (refused 11) (room 1)
   pub widths : unionCall P2 (encode (entryOf 1 [])) (room 1) ≡ writing (refused 13) (room 1)
@@ -162,3 +170,5 @@ pub record Orders : Type 0 where
       → unionCall (encode e) (encode f) out ≡ writing (refused 5) out
   pub thirteen-before-5-and-14 : (e f : Entry) (out : Bytes) → Valid e → Valid f → eqb (e .width) (f .width) ≡ false
       → (unionCall (encode e) (encode f) out ≡ writing (refused 13) out) × (differenceCall (encode e) (encode f) out ≡ writing (refused 13) out)
+  pub thirteen-before-5-and-14-split : (e f : Entry) (x y z : Bytes) → Valid e → Valid f → eqb (e .width) (f .width) ≡ false
+      → splitCall (encode e) (encode f) x y z ≡ writingAll (refused 13) (x ∷ y ∷ z ∷ [])

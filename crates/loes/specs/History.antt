@@ -5,16 +5,17 @@ use mathlib.Core.Option.{Option, none, some}
 use lib.ListN.{take}
 use Rattle.loes.specs.Bytes.{Bytes}
 use Rattle.loes.specs.Entry.{Entry}
-use Rattle.loes.specs.Model.{Answer, refused, wrote, wroteKey, tells, isPresent, isAbsent, isNone, isPosted, indexIs, rankIs, rangeIs, Outcome, Step, pack, union, difference, contains, indexOf, keyAt, rankAt, lowerBound, prefix}
-use Rattle.loes.specs.Calls.{packCall, unionCall, differenceCall, containsCall, indexOfCall, keyAtCall, rankCall, lowerBoundCall, prefixCall}
+use Rattle.loes.specs.Model.{Answer, refused, wrote, wroteKey, tells, isPresent, isAbsent, isNone, isPosted, indexIs, rankIs, rangeIs, Outcome, Step, pack, union, difference, split, contains, indexOf, keyAt, rankAt, lowerBound, prefix}
+use Rattle.loes.specs.Calls.{packCall, unionCall, differenceCall, splitCall, containsCall, indexOfCall, keyAtCall, rankCall, lowerBoundCall, prefixCall}
 
--- A call as a history has it: encodings by their places in the store, counted from 0, and whatever else it is given; its output buffer comes last.
+-- A call as a history has it: encodings by their places in the store, counted from 0, and whatever else it is given; its output buffers come last.
 pub data Call : Type 0 where
   -- a width and a batch
   doPack : ℕ → Bytes → Bytes → Call
   -- two places
   doUnion : ℕ → ℕ → Bytes → Call
   doDifference : ℕ → ℕ → Bytes → Call
+  doSplit : ℕ → ℕ → Bytes → Bytes → Bytes → Call
   -- a place and a key
   askContains : ℕ → Bytes → Call
   askIndexOf : ℕ → Bytes → Call
@@ -37,6 +38,7 @@ unfoldable pub modelCall : List Entry → Call → Option Step
 modelCall t (doPack m batch out) = some (pack m batch out)
 modelCall t (doUnion i j out) = atPlace t i λ e. atPlace t j λ f. some (union e f out)
 modelCall t (doDifference i j out) = atPlace t i λ e. atPlace t j λ f. some (difference e f out)
+modelCall t (doSplit i j both onlyFirst onlySecond) = atPlace t i λ e. atPlace t j λ f. some (split e f both onlyFirst onlySecond)
 modelCall t (askContains i x) = atPlace t i λ e. some (contains e x)
 modelCall t (askIndexOf i x) = atPlace t i λ e. some (indexOf e x)
 modelCall t (askLowerBound i x) = atPlace t i λ e. some (lowerBound e x)
@@ -66,6 +68,7 @@ unfoldable pub storeCall : List Bytes → Call → Option Outcome
 storeCall s (doPack m batch out) = some (packCall m batch out)
 storeCall s (doUnion i j out) = atPlace s i λ a. atPlace s j λ b. some (unionCall a b out)
 storeCall s (doDifference i j out) = atPlace s i λ a. atPlace s j λ b. some (differenceCall a b out)
+storeCall s (doSplit i j both onlyFirst onlySecond) = atPlace s i λ a. atPlace s j λ b. some (splitCall a b both onlyFirst onlySecond)
 storeCall s (askContains i x) = atPlace s i λ a. some (containsCall a x)
 storeCall s (askIndexOf i x) = atPlace s i λ a. some (indexOfCall a x)
 storeCall s (askLowerBound i x) = atPlace s i λ a. some (lowerBoundCall a x)

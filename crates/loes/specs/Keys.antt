@@ -74,3 +74,7 @@ either s t k = s k || t k
 -- the keys in the first set but not in the second
 unfoldable pub without : KeySet → KeySet → KeySet
 without s t k = s k && not (t k)
+
+-- the keys in both sets
+unfoldable pub inBoth : KeySet → KeySet → KeySet
+inBoth s t k = s k && t k

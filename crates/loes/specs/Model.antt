@@ -6,7 +6,7 @@ use mathlib.Core.Option.{Option, none, some}
 use lib.ListN.{length, take, drop, getD}
 use lib.Dec.{eqb, ltb}
 use Rattle.loes.specs.Bytes.{Bytes, tabulate, packBits, bitsIn, front}
-use Rattle.loes.specs.Keys.{Key, those, anyOf, less, isPrefix, smaller, setOf, either, without}
+use Rattle.loes.specs.Keys.{Key, those, anyOf, less, isPrefix, smaller, setOf, either, without, inBoth}
 use Rattle.loes.specs.Edges.{rank}
 use Rattle.loes.specs.Entry.{Entry, keyBytes, keysOf, count, edgesOf, edgeCount, withSet, wrongWidth, tooManyEdges}
 use Rattle.loes.specs.Encode.{encode}
@@ -39,12 +39,15 @@ pub record OutcomeOf (L : Type 0) : Type 0 where
 abbrev pub Outcome : Type 0
 Outcome = OutcomeOf (List Bytes)
 
--- an answer, with no buffer lent, and with one
-abbrev pub saying : Answer → Outcome
-saying a = record { answer = a; buffers = [] }
+-- an answer, with several buffers lent, with one, and with none
+abbrev pub writingAll : Answer → List Bytes → Outcome
+writingAll a bufs = record { answer = a; buffers = bufs }
 
 abbrev pub writing : Answer → Bytes → Outcome
-writing a out = record { answer = a; buffers = out ∷ [] }
+writing a out = writingAll a (out ∷ [])
+
+abbrev pub saying : Answer → Outcome
+saying a = writingAll a []
 
 -- a step of the model: its outcome, and the entries it adds
 pub record StepOf (L : Type 0) : Type 0 where
@@ -90,7 +93,7 @@ writes ts es bufs =
     (ts ++ test (anyOf (λ (e : Entry). tooManyEdges (edgeCount e)) es) tooLarge ∷ test (anyShort (map encode es) bufs) shortBuffer ∷ [])
     bufs
     (record {
-      outcome = record { answer = wrote (map (λ (e : Entry). length (encode e)) es); buffers = fronts (map encode es) bufs };
+      outcome = writingAll (wrote (map (λ (e : Entry). length (encode e)) es)) (fronts (map encode es) bufs);
       added = es;
     })
 
@@ -166,6 +169,15 @@ union e f out = writes (joinTests e f) (unionEntry e f ∷ []) (out ∷ [])
 
 unfoldable pub difference : Entry → Entry → Bytes → Step
 difference e f out = writes (joinTests e f) (differenceEntry e f ∷ []) (out ∷ [])
+
+-- ---- Split (document 02, request 3): three encodings, each to its own buffer
+-- the keys in both sets
+abbrev pub bothEntry : Entry → Entry → Entry
+bothEntry e f = withSet e (inBoth (e .set) (f .set))
+
+-- in both, in the first only, in the second only
+unfoldable pub split : Entry → Entry → Bytes → Bytes → Bytes → Step
+split e f both onlyFirst onlySecond = writes (joinTests e f) (bothEntry e f ∷ differenceEntry e f ∷ differenceEntry f e ∷ []) (both ∷ onlyFirst ∷ onlySecond ∷ [])
 
 -- ---- Open, and document 01's five questions
 unfoldable pub opens : Entry → Step

@@ -7,12 +7,13 @@ use native.Mathlib.Omega.{arith}
 use lib.ListN.{length, getD, length-map}
 use lib.Dec.{ltb, eqb}
 use Rattle.loes.specs.Bytes.{Bytes}
+use Rattle.loes.specs.Keys.{those}
 use Rattle.loes.specs.Edges.{Record}
 use Rattle.loes.proofs.Tests.{yes-lt, yes-eq}
 use Rattle.loes.proofs.Tree.{bit-le}
-use Rattle.records.specs.Records.{Flag, flagOfRecord, recordOfFlag, firstCount, secondCount}
+use Rattle.records.specs.Records.{hasEdge, Flag, flagOfRecord, recordOfFlag, firstCount, secondCount}
 use Rattle.records.specs.Numbers.{recordsOf, bitsOf, Short}
-use Rattle.records.specs.Tables.{spread, keptBy, partsIn, partsOf, eitherFlags, runIn, runOf, Spreads, Parted, Runs}
+use Rattle.records.specs.Tables.{spread, keptBy, partsIn, partsOf, eitherFlags, runIn, runOf, Spreads, Parted, Runs, Edged}
 use Rattle.records.proofs.Codes.{cases4}
 use Rattle.records.proofs.Numbers.{length-run}
 
@@ -65,7 +66,11 @@ module _ {t : List ℕ} (p : Parted t) (x : ℕ) (h : x < 256) where
       cases4 (λ w. bitsOf 4 (getD t x 0 / 2 ^ (16 + 4 * w) % 16) ≡ map (keptBy w) (recordsOf 4 x)) (ap (λ k. k .kept0) e) (ap (λ k. k .kept1) e) (ap (λ k. k .kept2) e) (ap (λ k. k .kept3) e) w l
 
 -- ---- Runs
-run-facts : (h : ℕ) (l : List Flag) → runIn h ≡ runOf l → (recordsOf (h / 256 / 2) (h % 256) ≡ map recordOfFlag l) × Short 4 (h % 256) (h / 256)
+-- what is read in an entry is a run
+abbrev pub Told : ℕ → List Record → Type 0
+Told h l = (recordsOf (h / 256 / 2) (h % 256) ≡ l) × Short 4 (h % 256) (h / 256)
+
+run-facts : (h : ℕ) (l : List Record) → runIn h ≡ runOf l → Told h l
 unfolding runIn runOf
 run-facts h l e =
     let f : ltb (h % 256) (2 ^ (h / 256)) ≡ true = ap (λ r. r .fits) e in
@@ -73,9 +78,11 @@ run-facts h l e =
     let w : eqb (2 * (h / 256 / 2)) (h / 256) ≡ true = ap (λ r. r .whole) e in
     (ap (λ r. r .records) e, (yes-lt (h % 256) (2 ^ (h / 256)) f, omega (arith, yes-lt (h / 256) 9 g), yes-eq (2 * (h / 256 / 2)) (h / 256) w))
 
-pub run-told : {t : List ℕ} → Runs t → (x y : ℕ) → x < 16 → y < 16
-    → (recordsOf (getD t (16 * x + y) 0 / 256 / 2) (getD t (16 * x + y) 0 % 256) ≡ map recordOfFlag (eitherFlags (bitsOf 4 x) (bitsOf 4 y))) × Short 4 (getD t (16 * x + y) 0 % 256) (getD t (16 * x + y) 0 / 256)
+pub run-told : {t : List ℕ} → Runs t → (x y : ℕ) → x < 16 → y < 16 → Told (getD t (16 * x + y) 0) (map recordOfFlag (eitherFlags (bitsOf 4 x) (bitsOf 4 y)))
 run-told {t} p x y hx hy =
     let q : (16 * x + y) / 16 ≡ x = omega arith in
     let r : (16 * x + y) % 16 ≡ y = omega arith in
-    run-facts (getD t (16 * x + y) 0) (eitherFlags (bitsOf 4 x) (bitsOf 4 y)) (rw (q, r) at (p .rule (16 * x + y) (omega arith)))
+    run-facts (getD t (16 * x + y) 0) (map recordOfFlag (eitherFlags (bitsOf 4 x) (bitsOf 4 y))) (rw (q, r) at (p .rule (16 * x + y) (omega arith)))
+
+pub edged-told : {t : List ℕ} → Edged t → (x : ℕ) → x < 256 → Told (getD t x 0) (those hasEdge (recordsOf 4 x))
+edged-told {t} p x h = run-facts (getD t x 0) (those hasEdge (recordsOf 4 x)) (p .rule x h)

@@ -140,7 +140,7 @@ records-take l n m h =
 
 -- ---- Windows: records from any place on
 -- sixteen records of four bytes
-sixteen : (l : Bytes) (j a b c d : ℕ) → a ≡ getD l j 0 → b ≡ getD l (j + 1) 0 → c ≡ getD l (j + 2) 0 → d ≡ getD l (j + 3) 0 → b < 256 → c < 256 → d < 256
+pub sixteen : (l : Bytes) (j a b c d : ℕ) → a ≡ getD l j 0 → b ≡ getD l (j + 1) 0 → c ≡ getD l (j + 2) 0 → d ≡ getD l (j + 3) 0 → b < 256 → c < 256 → d < 256
     → recordsOf 16 (a * 16777216 + b * 65536 + c * 256 + d) ≡ recordsAt l (4 * j) 16
 sixteen l j a b c d ea eb ec ed hb hc hd =
     let z : (a * 256 + b) * 256 + c ≡ a * 65536 + b * 256 + c = omega arith in
@@ -152,33 +152,41 @@ sixteen l j a b c d ea eb ec ed hb hc hd =
     cat 12 4 (a * 65536 + b * 256 + c) d hd ∙ ap₂ (λ s t. s ++ t) (rw z at e3) (ap (recordsOf 4) ed) ∙ sym (bytes-more l j 3) in
     rw y at e4
 
-eight-at : (l : Bytes) (i a b c d : ℕ) → a ≡ getD l (i / 4) 0 → b ≡ getD l (i / 4 + 1) 0 → c ≡ getD l (i / 4 + 2) 0 → d ≡ getD l (i / 4 + 3) 0 → b < 256 → c < 256 → d < 256
-    → recordsOf 8 ((a * 16777216 + b * 65536 + c * 256 + d) / 2 ^ (16 - 2 * (i % 4)) % 65536) ≡ recordsAt l i 8
-eight-at l i a b c d ea eb ec ed hb hc hd =
+-- of the records from record i's byte on, in a number: n from record i on, with s behind them
+run-at : (l : Bytes) (i n s x : ℕ) → recordsOf (i % 4 + n + s) x ≡ recordsAt l (4 * (i / 4)) (i % 4 + n + s) → recordsOf n (x / 2 ^ (2 * s) % 2 ^ (2 * n)) ≡ recordsAt l i n
+run-at l i n s x e =
     let j : ℕ = i / 4 in
     let r : ℕ = i % 4 in
-    let s : ℕ = 8 - r in
-    let x : ℕ = a * 16777216 + b * 65536 + c * 256 + d in
-    let z : 16 - 2 * r ≡ 2 * s = omega arith in
-    let n : r + 8 + s ≡ 16 = omega arith in
     let k : 4 * j + r ≡ i = omega arith in
-    let e : recordsOf (r + 8 + s) x ≡ recordsAt l (4 * j) (r + 8 + s) = rw n (sixteen l j a b c d ea eb ec ed hb hc hd) in
-    let f : recordsAt l (4 * j) (r + 8 + s) ≡ recordsAt l (4 * j) r ++ (recordsAt l i 8 ++ recordsAt l (4 * j + (r + 8)) s) =
-    at-add l (4 * j) (r + 8) s ∙ ap (λ t. t ++ recordsAt l (4 * j + (r + 8)) s) (at-add l (4 * j) r 8 ∙ ap (λ t. recordsAt l (4 * j) r ++ recordsAt l t 8) k)
-    ∙ append-assoc (recordsAt l (4 * j) r) (recordsAt l i 8) (recordsAt l (4 * j + (r + 8)) s) in
-    let g = append-inj (recordsOf r (x / 2 ^ (2 * s) / 2 ^ (2 * 8))) (recordsAt l (4 * j) r) (recordsOf 8 (x / 2 ^ (2 * s) % 2 ^ (2 * 8)) ++ recordsOf s (x % 2 ^ (2 * s))) (recordsAt l i 8 ++ recordsAt l (4 * j + (r + 8)) s)
-    (length-run r (x / 2 ^ (2 * s) / 2 ^ (2 * 8)) ∙ sym (length-at l (4 * j) r)) (sym (thirds r 8 s x) ∙ e ∙ f) .1 in
-    rw z (append-inj (recordsOf 8 (x / 2 ^ (2 * s) % 2 ^ (2 * 8))) (recordsAt l i 8) (recordsOf s (x % 2 ^ (2 * s))) (recordsAt l (4 * j + (r + 8)) s) (length-run 8 (x / 2 ^ (2 * s) % 2 ^ (2 * 8)) ∙ sym (length-at l i 8)) g .0)
+    let f : recordsAt l (4 * j) (r + n + s) ≡ recordsAt l (4 * j) r ++ (recordsAt l i n ++ recordsAt l (4 * j + (r + n)) s) =
+    at-add l (4 * j) (r + n) s ∙ ap (λ t. t ++ recordsAt l (4 * j + (r + n)) s) (at-add l (4 * j) r n ∙ ap (λ t. recordsAt l (4 * j) r ++ recordsAt l t n) k)
+    ∙ append-assoc (recordsAt l (4 * j) r) (recordsAt l i n) (recordsAt l (4 * j + (r + n)) s) in
+    let g = append-inj (recordsOf r (x / 2 ^ (2 * s) / 2 ^ (2 * n))) (recordsAt l (4 * j) r) (recordsOf n (x / 2 ^ (2 * s) % 2 ^ (2 * n)) ++ recordsOf s (x % 2 ^ (2 * s))) (recordsAt l i n ++ recordsAt l (4 * j + (r + n)) s)
+    (length-run r (x / 2 ^ (2 * s) / 2 ^ (2 * n)) ∙ sym (length-at l (4 * j) r)) (sym (thirds r n s x) ∙ e ∙ f) .1 in
+    append-inj (recordsOf n (x / 2 ^ (2 * s) % 2 ^ (2 * n))) (recordsAt l i n) (recordsOf s (x % 2 ^ (2 * s))) (recordsAt l (4 * j + (r + n)) s) (length-run n (x / 2 ^ (2 * s) % 2 ^ (2 * n)) ∙ sym (length-at l i n)) g .0
 
 -- moved to the upper bits of a word
 word-up : (x k : ℕ) → k < 4 → x * 2 ^ (32 + 2 * k) % 2 ^ 64 / 2 ^ 48 ≡ x / 2 ^ (16 - 2 * k) % 65536
 word-up x k h = cases4 (λ k. x * 2 ^ (32 + 2 * k) % 2 ^ 64 / 2 ^ 48 ≡ x / 2 ^ (16 - 2 * k) % 65536) (omega arith) (omega arith) (omega arith) (omega arith) k h
 
-pub window-ok : (l : Bytes) (i a b c d : ℕ) → a ≡ getD l (i / 4) 0 → b ≡ getD l (i / 4 + 1) 0 → c ≡ getD l (i / 4 + 2) 0 → d ≡ getD l (i / 4 + 3) 0 → b < 256 → c < 256 → d < 256
-    → eightOf ((a * 16777216 + b * 65536 + c * 256 + d) * 2 ^ (32 + 2 * (i % 4)) % 2 ^ 64) ≡ recordsAt l i 8
+pub window-ok : (l : Bytes) (i x : ℕ) → recordsOf 16 x ≡ recordsAt l (4 * (i / 4)) 16 → eightOf (x * 2 ^ (32 + 2 * (i % 4)) % 2 ^ 64) ≡ recordsAt l i 8
 unfolding eightOf
-window-ok l i a b c d ea eb ec ed hb hc hd =
-    rw (word-up (a * 16777216 + b * 65536 + c * 256 + d) (i % 4) (omega arith)) (eight-at l i a b c d ea eb ec ed hb hc hd)
+window-ok l i x e =
+    let n : i % 4 + 8 + (8 - i % 4) ≡ 16 = omega arith in
+    let z : 16 - 2 * (i % 4) ≡ 2 * (8 - i % 4) = omega arith in
+    rw (word-up x (i % 4) (omega arith), z) (run-at l i 8 (8 - i % 4) x (rw n e))
+
+-- sixteen, from twenty: x has the first sixteen of them, y the last four
+long-up : (x k : ℕ) → k < 4 → x * 2 ^ (24 + 2 * k) % 2 ^ 64 / 4294967296 ≡ x / 2 ^ (8 - 2 * k) % 2 ^ 32
+long-up x k h = cases4 (λ k. x * 2 ^ (24 + 2 * k) % 2 ^ 64 / 4294967296 ≡ x / 2 ^ (8 - 2 * k) % 2 ^ 32) (omega arith) (omega arith) (omega arith) (omega arith) k h
+
+pub long-window : (l : Bytes) (i x y : ℕ) → recordsOf 16 x ≡ recordsAt l (4 * (i / 4)) 16 → y ≡ getD l (i / 4 + 4) 0 → y < 256
+    → recordsOf 16 ((x * 256 + y) * 2 ^ (24 + 2 * (i % 4)) % 2 ^ 64 / 4294967296) ≡ recordsAt l i 16
+long-window l i x y ex ey h =
+    let n : i % 4 + 16 + (4 - i % 4) ≡ 20 = omega arith in
+    let z : 8 - 2 * (i % 4) ≡ 2 * (4 - i % 4) = omega arith in
+    let e : recordsOf 20 (x * 256 + y) ≡ recordsAt l (4 * (i / 4)) 20 = cat 16 4 x y h ∙ ap₂ (λ s t. s ++ t) ex (ap (recordsOf 4) ey) ∙ sym (bytes-more l (i / 4) 4) in
+    rw (long-up (x * 256 + y) (i % 4) (omega arith), z) (run-at l i 16 (4 - i % 4) (x * 256 + y) (rw n e))
 
 -- four records behind the first n of eight
 four-of : (x n : ℕ) → n ≤ 4 → recordsOf 4 (x / 2 ^ (8 - 2 * n) % 256) ≡ take 4 (drop n (recordsOf 8 x))

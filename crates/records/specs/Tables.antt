@@ -1,11 +1,12 @@
 -- What the filled tables tell of four records, or of two times four bits.
 use mathlib.Core.Path.{_≡_}
-use Prim.Native.Nat.{ℕ, _+_, _*_, _/_, _%_, _^_, _<_}
+use Prim.Native.Nat.{ℕ, _*_, _/_, _%_, _^_, _<_}
 use mathlib.Core.Bool.{Bool, true, cond}
 use mathlib.Core.List.{List, [], _∷_, _++_, map}
 use lib.ListN.{length, getD}
 use lib.Dec.{ltb, eqb}
 use Rattle.loes.specs.Bytes.{Bytes}
+use Rattle.loes.specs.Keys.{those}
 use Rattle.loes.specs.Edges.{Record}
 use Rattle.records.specs.Records.{hasEdge, nextOf, restOf, Flag, flagOfRecord, recordOfFlag, flagIf, firstCount, secondCount, isFlag}
 use Rattle.records.specs.Numbers.{recordsOf, bitsOf}
@@ -24,6 +25,9 @@ partEntries = 256
 
 abbrev pub runEntries : ℕ
 runEntries = 256
+
+abbrev pub edgedEntries : ℕ
+edgedEntries = 256
 
 -- ---- Spread: entry 256·f + x
 -- the next record where a bit is set, and none where it is clear
@@ -104,13 +108,23 @@ runIn h = record {
   whole = eqb (2 * (h / 256 / 2)) (h / 256);
 }
 
-unfoldable pub runOf : List Flag → RunTold
-runOf l = record { records = map recordOfFlag l; fits = true; few = true; whole = true }
+unfoldable pub runOf : List Record → RunTold
+runOf l = record { records = l; fits = true; few = true; whole = true }
 
 -- the flags of the bits of x and of y
 abbrev pub Runs : List ℕ → Type 0
-Runs t = Ruled runIn (λ (i : ℕ). runOf (eitherFlags (bitsOf 4 (i / 16)) (bitsOf 4 (i % 16)))) runEntries t
+Runs t = Ruled runIn (λ (i : ℕ). runOf (map recordOfFlag (eitherFlags (bitsOf 4 (i / 16)) (bitsOf 4 (i % 16))))) runEntries t
 
--- ---- Tables lent: if the first has an entry, all three are
+-- ---- Edged: entry x
+-- the run of those records of a byte that have an edge
+abbrev pub Edged : List ℕ → Type 0
+Edged t = Ruled runIn (λ (i : ℕ). runOf (those hasEdge (recordsOf 4 i))) edgedEntries t
+
+-- ---- Tables lent
+-- if the first has an entry, all three are lent
 abbrev pub TablesLent : Bytes → List ℕ → List ℕ → Type 0
 TablesLent spreads parts runs = 0 < length spreads → Spreads spreads × Parted parts × Runs runs
+
+-- if it has an entry, it is lent
+abbrev pub EdgedLent : List ℕ → Type 0
+EdgedLent t = 0 < length t → Edged t

@@ -1,13 +1,14 @@
 // Records in bytes: one at a time, in windows and runs of several, and looked up in tables.
-ghost use Prim.Native.Nat.{_+_, _*_, _/_, _^_, _<_, _≤_};
+ghost use Prim.Native.Nat.{_+_, _*_, _/_, _%_, _^_, _<_, _≤_};
 ghost use mathlib.Core.Path.{_≡_};
 ghost use mathlib.Core.List.{_++_, map};
 ghost use lib.ListN.{length, take, drop};
 ghost use Rattle.loes.specs.Limits.{maxEdges};
+ghost use Rattle.loes.specs.Keys.{those};
 ghost use Rattle.loes.specs.Edges.{Record};
-ghost use Rattle.records.specs.Records.{recordOfCode, codeIn, recordAt, recordsAt, flagOfRecord, recordOfFlag, firstCount, secondCount, withRecord, Put, Pushed, Sealed};
+ghost use Rattle.records.specs.Records.{hasEdge, recordOfCode, codeIn, recordAt, recordsAt, flagOfRecord, recordOfFlag, firstCount, secondCount, withRecord, Put, Pushed, Sealed};
 ghost use Rattle.records.specs.Numbers.{recordsOf, bitsOf, eightOf, Short, Appended};
-ghost use Rattle.records.specs.Tables.{spread, keptBy, eitherFlags, Spreads, Parted, Runs};
+ghost use Rattle.records.specs.Tables.{spread, keptBy, eitherFlags, Spreads, Parted, Runs, Edged};
 use bits::RecordIndex;
 
 // ---- Records in bytes, as numbers 2·onZero + onOne
@@ -80,17 +81,23 @@ pub fn wide(x: u8) -> usize
 // What a byte weighs that has three behind it.
 const THREE_BYTES: usize = bits::TWO_BYTES * bits::BYTE;
 
+// The sixteen records of the four bytes from byte j on. Just these are read: a wider load would wait for bytes that were written a moment ago.
+pub fn block(l: &[u8], j: usize) -> usize
+    requires { ⌜ j + 3 < length (now l) ⌝ }
+    ensures { λ r. ⌜ (recordsOf 16 r ≡ recordsAt (now (l .entry)) (4 * j) 16) × (r < 2 ^ 32) ⌝ }
+{
+    wide(l[j]) * THREE_BYTES
+        + wide(l[j + 1]) * bits::TWO_BYTES
+        + wide(l[j + 2]) * bits::BYTE
+        + wide(l[j + 3])
+}
+
 // Eight records from record i on, in the upper bits of a word.
 pub fn window(l: &[u8], i: RecordIndex) -> usize
     requires { ⌜ i .0 / 4 + 3 < length (now l) ⌝ }
     ensures { λ r. ⌜ eightOf r ≡ recordsAt (now (l .entry)) (i .0) 8 ⌝ }
 {
-    let at = i.0 / 4;
-    let x = wide(l[at]) * THREE_BYTES
-        + wide(l[at + 1]) * bits::TWO_BYTES
-        + wide(l[at + 2]) * bits::BYTE
-        + wide(l[at + 3]);
-    x << (32 + 2 * (i.0 % 4))
+    block(l, i.0 / 4) << (32 + 2 * (i.0 % 4))
 }
 
 // Four records behind the first n of such eight.
@@ -185,14 +192,28 @@ pub fn kept_in(t: &[u32], x: usize, w: usize) -> usize
     (h >> (16 + 4 * w)) % 16
 }
 
+// The run in an entry of a table: 256 times its bits, and their number.
+fn run_of(h: usize) -> Run
+    ensures { λ r. ⌜ (r .records ≡ h % 256) × (r .bits ≡ h / 256) ⌝ }
+{
+    Run {
+        records: h % 256,
+        bits: h / 256,
+    }
+}
+
 // The flags of four bits of each that are in either.
 pub fn run_at(t: &[u16], x: usize, y: usize) -> Run
     requires { ⌜ Runs (now t) × (x < 16) × (y < 16) ⌝ }
     ensures { λ r. ⌜ (recordsOf (r .bits / 2) (r .records) ≡ map recordOfFlag (eitherFlags (bitsOf 4 x) (bitsOf 4 y))) × Short 4 (r .records) (r .bits) ⌝ }
 {
-    let h = t[16 * x + y] as usize;
-    Run {
-        records: h % 256,
-        bits: h / 256,
-    }
+    run_of(t[16 * x + y] as usize)
+}
+
+// The records of a byte that have an edge.
+pub fn edged_at(t: &[u16], x: u8) -> Run
+    requires { ⌜ Edged (now t) ⌝ }
+    ensures { λ r. ⌜ (recordsOf (r .bits / 2) (r .records) ≡ those hasEdge (recordsOf 4 x)) × Short 4 (r .records) (r .bits) ⌝ }
+{
+    run_of(t[wide(x)] as usize)
 }

@@ -1,18 +1,15 @@
 -- Records with an edge moved together.
 use mathlib.Core.Path.{_≡_, refl, sym, ap, _∙_}
 use Prim.Native.Nat.{ℕ, suc, _+_, _*_, _/_, _%_, _≤_}
-use mathlib.Core.Bool.{Bool, true, false}
-use mathlib.Core.List.{List, [], _∷_, _++_, map, append-assoc}
+use mathlib.Core.List.{[], _∷_, _++_, append-assoc}
 use native.Mathlib.Omega.{arith}
 use native.Mathlib.Decide.{le-ind}
 use lib.ListN.{length, getD, length-append}
 use Rattle.loes.specs.Bytes.{Bytes, tabulate}
 use Rattle.loes.specs.Keys.{those}
-use Rattle.loes.specs.Edges.{Record}
 use Rattle.loes.proofs.Lists.{those-append, length-those}
-use Rattle.records.specs.Records.{hasEdge, recordOfCode, recordAt, recordsTo, recordsAt, Flag, flagIf, recordOfFlag, Pushed}
-use Rattle.records.specs.Numbers.{recordsOf, bitsOf}
-use Rattle.records.specs.Tables.{eitherFlags}
+use Rattle.records.specs.Records.{hasEdge, recordOfCode, recordAt, recordsTo, recordsAt, Pushed}
+use Rattle.records.specs.Numbers.{recordsOf}
 use Rattle.restrict.specs.Restriction.{Compacted, BlockCompacted}
 use Rattle.records.proofs.Codes.{records-more, length-records}
 use Rattle.records.proofs.Numbers.{records-add, byte-run, bytes-more}
@@ -51,24 +48,7 @@ those-mono q i r h =
     le-ind (λ (j : ℕ). length (those hasEdge (recordsTo q i)) ≤ length (those hasEdge (recordsTo q j))) (omega arith)
     (λ j l e. rw (those-more q j, length-append (those hasEdge (recordsTo q j)) (those hasEdge (recordAt q j ∷ []))) (omega arith)) r h
 
--- ---- The records of bytes that have an edge, as a run
-flag-edge : (a b : Bool) (l : List Flag) (m : List Record) → map recordOfFlag l ≡ those hasEdge m → map recordOfFlag (flagIf a b ++ l) ≡ those hasEdge (record { onZero = b; onOne = a } ∷ m)
-unfolding flagIf recordOfFlag those hasEdge
-flag-edge true true l m e = rw e
-flag-edge true false l m e = rw e
-flag-edge false true l m e = rw e
-flag-edge false false l m e = e
-
-flagged-edges : (l : List Record) → map recordOfFlag (eitherFlags (map (λ (z : Record). z .onOne) l) (map (λ (z : Record). z .onZero) l)) ≡ those hasEdge l
-unfolding eitherFlags
-flagged-edges [] = unfold those in refl
-flagged-edges (r ∷ l) = flag-edge (r .onOne) (r .onZero) (eitherFlags (map (λ (z : Record). z .onOne) l) (map (λ (z : Record). z .onZero) l)) l (flagged-edges l)
-
-pub byte-edges : (x f s : ℕ) → bitsOf 4 f ≡ map (λ (z : Record). z .onOne) (recordsOf 4 x) → bitsOf 4 s ≡ map (λ (z : Record). z .onZero) (recordsOf 4 x)
-    → map recordOfFlag (eitherFlags (bitsOf 4 f) (bitsOf 4 s)) ≡ those hasEdge (recordsOf 4 x)
-byte-edges x f s ef es = rw (ef, es) (flagged-edges (recordsOf 4 x))
-
--- the records of four bytes, two and two
+-- ---- The records of four bytes, two and two
 pub four-bytes : (q : Bytes) (j : ℕ) → recordsAt q (4 * j) 16 ≡ (recordsOf 4 (getD q j 0) ++ recordsOf 4 (getD q (j + 1) 0)) ++ (recordsOf 4 (getD q (j + 2) 0) ++ recordsOf 4 (getD q (j + 3) 0))
 four-bytes q j =
     bytes-more q j 3 ∙ ap (λ t. t ++ recordsOf 4 (getD q (j + 3) 0)) (bytes-more q j 2 ∙ ap (λ t. t ++ recordsOf 4 (getD q (j + 2) 0)) (bytes-more q j 1 ∙ ap (λ t. t ++ recordsOf 4 (getD q (j + 1) 0)) (byte-run q j)))

@@ -15,7 +15,7 @@ use Rattle.loes.proofs.Lists.{getD-map-in}
 use Rattle.loes.proofs.Bytes.{length-tabulate, getD-tabulate}
 use Rattle.loes.proofs.Bits.{tabulate-ext, bit-odd, drop-tabulate}
 use Rattle.records.specs.Records.{emptyRecord, hasEdge, children, childrenBefore, recordOfCode, codeIn, recordAt, recordsTo, flagAt, isFlag, Put}
-use Rattle.restrict.specs.Restriction.{maskAt, maskRecord, maskedFrom, flagMask, keptAt, Entries, RecordMarked, Marked}
+use Rattle.restrict.specs.Restriction.{maskAt, maskRecord, maskedFrom, flagMask, keptAt, Entries, RecordMarked, Marks, Marked}
 use Rattle.records.proofs.Codes.{record-eq, code-at}
 
 -- ---- One record
@@ -38,14 +38,11 @@ code-mask : (f : ℕ → Bool) (d x : ℕ) → x < 4 → _≡_ {A = Record} (rec
 unfolding maskAt recordOfCode
 code-mask f d x h = ap (λ t. record { onZero = odd (x / 2) && f d; onOne = odd x && f (d + t) }) (sym (half-code x h))
 
-pub marked-ok : {w : ℕ} {q p : Bytes} {r x i c a b : ℕ} → x < 4 → a ≡ bit (odd (x / 2) && keptAt w q r c) → b ≡ bit (odd x && keptAt w q r (c + x / 2))
-    → Put i (a * 2 + b) q p → RecordMarked w q r x i c p
-marked-ok {w} {q} {r} {x} {c} h ea eb t =
-    record {
-      size = t .size;
-      here = t .here ∙ rw (ea, eb) (bits-code (odd (x / 2) && keptAt w q r c) (odd x && keptAt w q r (c + x / 2))) ∙ code-mask (keptAt w q r) c x h;
-      other = t .other;
-    }
+pub kept-code : (f : ℕ → Bool) (c x a b : ℕ) → x < 4 → a ≡ bit (odd (x / 2) && f c) → b ≡ bit (odd x && f (c + x / 2)) → recordOfCode (a * 2 + b) ≡ maskAt f c (recordOfCode x)
+kept-code f c x a b h ea eb = rw (ea, eb) (bits-code (odd (x / 2) && f c) (odd x && f (c + x / 2))) ∙ code-mask f c x h
+
+pub marked-ok : {w : ℕ} {q z p : Bytes} {r i c v : ℕ} {s : Record} → recordOfCode v ≡ maskAt (keptAt w z q r) c s → Put i v z p → RecordMarked w q r s z i c p
+marked-ok e t = record { here = t .here ∙ e; other = t .other; size = t .size }
 
 pub children-code : (x : ℕ) → x < 4 → children (recordOfCode x) ≡ x / 2 + x % 2
 unfolding children recordOfCode
@@ -57,7 +54,7 @@ and-eq false u v h = refl
 
 -- ---- Entries: the records from i on, then the members
 kept-entry : (w : ℕ) (q : Bytes) (r n i x : ℕ) → i ≤ r → i ≤ x → x < r + n
-    → getD (map hasEdge (drop i (recordsTo q r)) ++ tabulate (flagMask w q r) n) (x - i) false ≡ keptAt w q r x
+    → getD (map hasEdge (drop i (recordsTo q r)) ++ tabulate (flagMask w q r) n) (x - i) false ≡ keptAt w q q r x
 unfolding keptAt recordsTo flagMask
 kept-entry w q r n i x h k l =
     let t : List Record = tabulate (λ (k : ℕ). recordAt q (i + k)) (r - i) in
@@ -147,7 +144,7 @@ module _ {w : ℕ} {q : Bytes} {r n j c x : ℕ} {p : Bytes} (a : Entries q r n)
   inside = (omega (arith, first, down .1, before-ge a j (omega (arith, v .low))), omega (arith, v .next, a .total, before-le q (suc j) r (v .low)))
 
   -- the record that is left
-  head : {u : Bytes} → RecordMarked w p r x j (c - (x / 2 + x % 2)) u
+  head : {u : Bytes} → RecordMarked w p r (recordOfCode x) p j (c - (x / 2 + x % 2)) u
       → recordAt u j ≡ maskRecord (recordAt q j) (drop (c - (x / 2 + x % 2) - j - 1) (map hasEdge (drop (suc j) (recordsTo p r)) ++ tabulate (flagMask w p r) n))
   unfolding recordOfCode
   head t =
@@ -158,23 +155,23 @@ module _ {w : ℕ} {q : Bytes} {r n j c x : ℕ} {p : Bytes} (a : Entries q r n)
       let i1 : j + 1 ≤ d = inside .0 in
       let i2 : c ≤ r + n = inside .1 in
       let i3 : d + (x / 2 + x % 2) ≡ c = omega (arith, down .0) in
-      let kz : odd (x / 2) ≡ true → keptAt w p r d ≡ getD K (d - suc j) false = λ f.
+      let kz : odd (x / 2) ≡ true → keptAt w p p r d ≡ getD K (d - suc j) false = λ f.
       let g : x / 2 ≡ 1 = sym (half-code x small) ∙ ap bit f in
       sym (kept-entry w p r n (suc j) d (v .low) (omega arith) (omega arith)) in
-      let ko : odd x ≡ true → keptAt w p r (d + x / 2) ≡ getD K (d + x / 2 - suc j) false = λ f.
+      let ko : odd x ≡ true → keptAt w p p r (d + x / 2) ≡ getD K (d + x / 2 - suc j) false = λ f.
       let g : x % 2 ≡ 1 = sym (bit-odd x) ∙ ap bit f in
       sym (kept-entry w p r n (suc j) (d + x / 2) (v .low) (omega arith) (omega arith)) in
       let hz : d - j - 1 + 0 ≡ d - suc j = omega arith in
       let ho : d - j - 1 + x / 2 ≡ d + x / 2 - suc j = omega arith in
       let hb : bit (recordAt q j .onZero) ≡ x / 2 = ap bit ze ∙ half-code x small in
-      t .here ∙ sym (code-mask (keptAt w p r) d x small)
+      t .here ∙ sym (code-mask (keptAt w p p r) d x small)
       ∙ record-eq
-      (and-eq (odd (x / 2)) (keptAt w p r d) (getD K (d - suc j) false) kz ∙ ap₂ _&&_ (sym ze) (sym (getD-drop (d - j - 1) K 0 false ∙ ap (λ y. getD K y false) hz)))
-      (and-eq (odd x) (keptAt w p r (d + x / 2)) (getD K (d + x / 2 - suc j) false) ko
+      (and-eq (odd (x / 2)) (keptAt w p p r d) (getD K (d - suc j) false) kz ∙ ap₂ _&&_ (sym ze) (sym (getD-drop (d - j - 1) K 0 false ∙ ap (λ y. getD K y false) hz)))
+      (and-eq (odd x) (keptAt w p p r (d + x / 2)) (getD K (d + x / 2 - suc j) false) ko
       ∙ ap₂ _&&_ (sym on) (sym (ap (λ y. getD (drop (d - j - 1) K) y false) hb ∙ getD-drop (d - j - 1) K (x / 2) false ∙ ap (λ y. getD K y false) ho)))
       ∙ sym (mask-record (recordAt q j) (drop (d - j - 1) K))
 
-  pub mark-more : {u : Bytes} → RecordMarked w p r x j (c - (x / 2 + x % 2)) u → Marking w q r n j (c - (x / 2 + x % 2)) u
+  pub mark-more : {u : Bytes} → RecordMarked w p r (recordOfCode x) p j (c - (x / 2 + x % 2)) u → Marking w q r n j (c - (x / 2 + x % 2)) u
   mark-more {u} t =
       let d : ℕ = c - (x / 2 + x % 2) in
       let k : List Bool = tabulate (flagMask w q r) n in
@@ -211,5 +208,8 @@ done-out : (w : ℕ) (q p : Bytes) (r n c : ℕ) → Marking w q r n 0 c p → r
 done-out w q p zero n c v = unfold recordsTo tabulate maskedFrom in refl
 done-out w q p (suc r) n c v = let z : c - 0 ≡ 1 = unfold childrenBefore in omega (arith, v .next, ap bit (lt-yes 0 (suc r) (omega arith))) in rw z at (v .out)
 
+pub marks-done : {w : ℕ} {q p : Bytes} {r n c : ℕ} → Marking w q r n 0 c p → Marks w q r n p
+marks-done {w} {q} {p} {r} {n} {c} v = record { out = done-out w q p r n c v }
+
 pub mark-done : {w : ℕ} {q p : Bytes} {r n c : ℕ} → Marking w q r n 0 c p → Marked w q r n p
-mark-done {w} {q} {p} {r} {n} {c} v = record { out = done-out w q p r n c v; other = v .other; size = v .size }
+mark-done v = record { marks = marks-done v; other = v .other; size = v .size }

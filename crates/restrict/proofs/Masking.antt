@@ -19,7 +19,7 @@ use Rattle.records.specs.Tables.{spread, keptBy}
 use Rattle.restrict.specs.Restriction.{keptAt, Entries, RecordMarked, maskAt, maskedAt, childCount, MarkRoom}
 use Rattle.records.proofs.Codes.{cases4, odd-eq, record-eq, code-at, put-ok, records-same}
 use Rattle.records.proofs.Numbers.{cat, at-add, length-run, byte-run, halves}
-use Rattle.restrict.proofs.Marking.{Marking, and-eq, children-code, marked-ok, mark-more}
+use Rattle.restrict.proofs.Marking.{Marking, and-eq, children-code, kept-code, marked-ok, mark-more}
 
 -- ---- On lists of records
 count-append : (l m : List Record) → childCount (l ++ m) ≡ childCount l + childCount m
@@ -40,7 +40,7 @@ masked-append f c (r ∷ l) m =
     rw z (ap (λ t. maskAt f c r ∷ t) (masked-append f (c + children r) l m))
 
 -- only the entries of the edges count
-mask-ext : (f g : ℕ → Bool) (c : ℕ) (r : Record) → ((m : ℕ) → m < children r → f (c + m) ≡ g (c + m)) → maskAt f c r ≡ maskAt g c r
+pub mask-ext : (f g : ℕ → Bool) (c : ℕ) (r : Record) → ((m : ℕ) → m < children r → f (c + m) ≡ g (c + m)) → maskAt f c r ≡ maskAt g c r
 unfolding maskAt children
 mask-ext f g c r h =
     let z : c + 0 ≡ c = omega arith in
@@ -48,7 +48,7 @@ mask-ext f g c r h =
     (and-eq (r .onZero) (f c) (g c) (λ e. rw z at (h 0 (rw e (omega arith)))))
     (and-eq (r .onOne) (f (c + bit (r .onZero))) (g (c + bit (r .onZero))) (λ e. h (bit (r .onZero)) (rw e (omega arith))))
 
-masked-ext : (f g : ℕ → Bool) (c : ℕ) (l : List Record) → ((m : ℕ) → m < childCount l → f (c + m) ≡ g (c + m)) → maskedAt f c l ≡ maskedAt g c l
+pub masked-ext : (f g : ℕ → Bool) (c : ℕ) (l : List Record) → ((m : ℕ) → m < childCount l → f (c + m) ≡ g (c + m)) → maskedAt f c l ≡ maskedAt g c l
 unfolding maskedAt childCount
 masked-ext f g c [] h = refl
 masked-ext f g c (r ∷ l) h =
@@ -134,65 +134,63 @@ byte-ok f x d a b n en ea eb h =
     cat 2 2 a b h ∙ ap₂ (λ s t. s ++ t) ea (eb ∙ ap (λ t. maskedAt f (d + t) (recordsOf 2 (x % 16))) en)
     ∙ sym (masked-append f d (recordsOf 2 (x / 16)) (recordsOf 2 (x % 16))) ∙ ap (maskedAt f d) (sym (halves x))
 
--- ---- The test of the entries from d on: all records, or all members
-kept-member : (w : ℕ) (p : Bytes) (m : ℕ) → 1 ≤ w → keptBy w (recordAt p m) ≡ isFlag w (flagAt p m)
-unfolding keptBy flagOfRecord flagAt
-kept-member w p m h = let e : eqb w 0 ≡ false = eq-no w 0 (λ f. omega arith) in rw e
+-- ---- The test of an entry: of a record, and of a member
+pub kept-edge : (w : ℕ) (z q : Bytes) (r m : ℕ) → m < r → keptBy 0 (recordAt z m) ≡ keptAt w z q r m
+unfolding keptAt keptBy
+kept-edge w z q r m h = rw (lt-yes m r h)
+
+pub kept-member : (w : ℕ) (z q : Bytes) (r m : ℕ) → 1 ≤ w → r ≤ m → keptBy w (recordAt q m) ≡ keptAt w z q r m
+unfolding keptAt keptBy flagAt
+kept-member w z q r m h l = let e : eqb w 0 ≡ false = eq-no w 0 (λ f. omega arith) in rw (lt-no m r l, e)
 
 -- the test is one that the tables have
 pub test-small : (t w : ℕ) (b : Bool) → t ≡ cond b 0 w → w ≤ 3 → t < 4
 test-small t w true e h = omega arith
 test-small t w false e h = omega arith
 
-kept-test : (w : ℕ) (p : Bytes) (r d t k : ℕ) → 1 ≤ w → t ≡ cond (ltb d r) 0 w → (d < r → d + k ≤ r) → (m : ℕ) → m < k → keptBy t (recordAt p (d + m)) ≡ keptAt w p r (d + m)
-unfolding keptAt
-kept-test w p r d t k h et s m l =
-    elim (decLe (suc d) r) [
-      | yes y ↦
-          let e : t ≡ 0 = et ∙ rw (lt-yes d r y) in
-          rw (e, lt-yes (d + m) r (omega (arith, s y))) (unfold keptBy in refl)
-      | no y ↦
-          let e : t ≡ w = et ∙ rw (lt-no d r (omega arith)) in
-          rw (e, lt-no (d + m) r (omega arith)) (kept-member w p (d + m) h)
-    ]
+kept-test : (w : ℕ) (p : Bytes) (r d t k : ℕ) → 1 ≤ w → t ≡ cond (ltb d r) 0 w → (d < r → d + k ≤ r) → (m : ℕ) → m < k → keptBy t (recordAt p (d + m)) ≡ keptAt w p p r (d + m)
+kept-test w p r d t k h et s m l = elim (decLe (suc d) r) [
+  | yes y ↦ rw (et, lt-yes d r y) (kept-edge w p p r (d + m) (omega (arith, s y)))
+  | no y ↦ rw (et, lt-no d r (omega arith)) (kept-member w p p r (d + m) h (omega arith))
+]
 
 -- ---- A byte marked is four records marked, from the last to the first
 -- record i of P marked, which gives O; the entries from b on are those of p
-record MarkStep (w : ℕ) (q : Bytes) (r n : ℕ) (p : Bytes) (b i d : ℕ) (P O : Bytes) (s : Record) : Type 0 where
-  marking : Marking w q r n i d O
-  kept : (m : ℕ) → b ≤ m → keptAt w O r m ≡ keptAt w p r m
-  size : length O ≡ length p
-  here : recordAt O i ≡ maskAt (keptAt w p r) d s
-  other : (m : ℕ) → (m ≡ i → ⊥) → recordAt O m ≡ recordAt P m
+pub record MarkStep (w : ℕ) (q : Bytes) (r n : ℕ) (p : Bytes) (b i d : ℕ) (P O : Bytes) (s : Record) : Type 0 where
+  pub marking : Marking w q r n i d O
+  pub kept : (m : ℕ) → b ≤ m → keptAt w O O r m ≡ keptAt w p p r m
+  pub size : length O ≡ length p
+  pub here : recordAt O i ≡ maskAt (keptAt w p p r) d s
+  pub other : (m : ℕ) → (m ≡ i → ⊥) → recordAt O m ≡ recordAt P m
 
-kept-same : (w : ℕ) (o p : Bytes) (r m : ℕ) → recordAt o m ≡ recordAt p m → keptAt w o r m ≡ keptAt w p r m
+pub kept-same : (w : ℕ) (o p : Bytes) (r m : ℕ) → recordAt o m ≡ recordAt p m → keptAt w o o r m ≡ keptAt w p p r m
 unfolding keptAt flagAt
 kept-same w o p r m e = rw e
 
-step : {w : ℕ} {q : Bytes} {r n : ℕ} → Entries q r n → (p P : Bytes) (b i k c d x : ℕ) → k ≡ suc i → c ≡ d + children (recordOfCode x) → Marking w q r n k c P
-    → ((m : ℕ) → b ≤ m → keptAt w P r m ≡ keptAt w p r m) → length P ≡ length p → x < 4 → recordOfCode x ≡ recordAt q i → i < b → b ≤ d → i / 4 < length p
+pub step : {w : ℕ} {q : Bytes} {r n : ℕ} → Entries q r n → (p P : Bytes) (b i k c d x : ℕ) → k ≡ suc i → c ≡ d + children (recordOfCode x) → Marking w q r n k c P
+    → ((m : ℕ) → b ≤ m → keptAt w P P r m ≡ keptAt w p p r m) → length P ≡ length p → x < 4 → recordOfCode x ≡ recordAt q i → i < b → b ≤ d → i / 4 < length p
     → (O : Bytes) × MarkStep w q r n p b i d P O (recordOfCode x)
 step {w} {q} {r} {n} a p P b i k c d x ek ec v same size small ex hi hd room =
     let z : c - (x / 2 + x % 2) ≡ d = omega (arith, children-code x small) in
-    let A : ℕ = bit (odd (x / 2) && keptAt w P r d) in
-    let B : ℕ = bit (odd x && keptAt w P r (d + x / 2)) in
+    let A : ℕ = bit (odd (x / 2) && keptAt w P P r d) in
+    let B : ℕ = bit (odd x && keptAt w P P r (d + x / 2)) in
     let y : ℕ = withRecord (getD P (i / 4) 0) (i % 4) (A * 2 + B) in
     let O : Bytes = set P (i / 4) y in
-    let l : A * 2 + B < 4 = omega (arith, bit-le (odd (x / 2) && keptAt w P r d), bit-le (odd x && keptAt w P r (d + x / 2))) in
+    let l : A * 2 + B < 4 = omega (arith, bit-le (odd (x / 2) && keptAt w P P r d), bit-le (odd x && keptAt w P P r (d + x / 2))) in
     let put : Put i (A * 2 + B) P O = put-ok P i (A * 2 + B) y (omega arith) l refl in
-    let t : RecordMarked w P r x i d O = marked-ok small refl refl put in
-    let t' : RecordMarked w P r x i (c - (x / 2 + x % 2)) O = rw z t in (
+    let t : RecordMarked w P r (recordOfCode x) P i d O = marked-ok (kept-code (keptAt w P P r) d x A B small refl refl) put in
+    let t' : RecordMarked w P r (recordOfCode x) P i (c - (x / 2 + x % 2)) O = rw z t in (
       O,
       record {
         marking = rw z at (mark-more a (rw ek at v) small ex t');
         kept = λ m h. kept-same w O P r m (put .other m (λ f. omega arith)) ∙ same m h;
         size = put .size ∙ size;
-        here = t .here ∙ mask-ext (keptAt w P r) (keptAt w p r) d (recordOfCode x) (λ m k. same (d + m) (omega arith));
+        here = t .here ∙ mask-ext (keptAt w P P r) (keptAt w p p r) d (recordOfCode x) (λ m k. same (d + m) (omega arith));
         other = put .other;
       },
     )
 
-marking-same : {w : ℕ} {q : Bytes} {r n k c : ℕ} {o p : Bytes} (i : ℕ) → Marking w q r n k c o → k ≡ i → ((m : ℕ) → recordAt p m ≡ recordAt o m) → length p ≡ length o → Marking w q r n i c p
+pub marking-same : {w : ℕ} {q : Bytes} {r n k c : ℕ} {o p : Bytes} (i : ℕ) → Marking w q r n k c o → k ≡ i → ((m : ℕ) → recordAt p m ≡ recordAt o m) → length p ≡ length o → Marking w q r n i c p
 marking-same {r} {o} {p} i h y same size =
     let v = rw y at h in
     record {
@@ -209,10 +207,10 @@ module _ {w : ℕ} {q : Bytes} {r n : ℕ} (a : Entries q r n) (p u : Bytes) (j 
       → recordOfCode x0 ≡ recordAt q (4 * j + 0) → recordOfCode x1 ≡ recordAt q (4 * j + 1) → recordOfCode x2 ≡ recordAt q (4 * j + 2) → recordOfCode x3 ≡ recordAt q (4 * j + 3)
       → Marking w q r n (4 * j + 4) c p → 4 * j + 4 ≤ d
       → c ≡ d + children (recordOfCode x0) + children (recordOfCode x1) + children (recordOfCode x2) + children (recordOfCode x3) → j < length p
-      → recordAt u (4 * j + 0) ≡ maskAt (keptAt w p r) d (recordOfCode x0)
-      → recordAt u (4 * j + 1) ≡ maskAt (keptAt w p r) (d + children (recordOfCode x0)) (recordOfCode x1)
-      → recordAt u (4 * j + 2) ≡ maskAt (keptAt w p r) (d + children (recordOfCode x0) + children (recordOfCode x1)) (recordOfCode x2)
-      → recordAt u (4 * j + 3) ≡ maskAt (keptAt w p r) (d + children (recordOfCode x0) + children (recordOfCode x1) + children (recordOfCode x2)) (recordOfCode x3)
+      → recordAt u (4 * j + 0) ≡ maskAt (keptAt w p p r) d (recordOfCode x0)
+      → recordAt u (4 * j + 1) ≡ maskAt (keptAt w p p r) (d + children (recordOfCode x0)) (recordOfCode x1)
+      → recordAt u (4 * j + 2) ≡ maskAt (keptAt w p p r) (d + children (recordOfCode x0) + children (recordOfCode x1)) (recordOfCode x2)
+      → recordAt u (4 * j + 3) ≡ maskAt (keptAt w p p r) (d + children (recordOfCode x0) + children (recordOfCode x1) + children (recordOfCode x2)) (recordOfCode x3)
       → ((m : ℕ) → (m / 4 ≡ j → ⊥) → recordAt u m ≡ recordAt p m) → length u ≡ length p → Marking w q r n (4 * j) d u
   four-steps x0 x1 x2 x3 l0 l1 l2 l3 e0 e1 e2 e3 v hd hc room u0 u1 u2 u3 other size =
       let b : ℕ = 4 * j + 4 in
@@ -242,11 +240,10 @@ module _ {w : ℕ} {q : Bytes} {r n : ℕ} (a : Entries q r n) (p u : Bytes) (j 
             other m y ∙ sym (t0 .other m (λ g. y (omega arith)) ∙ t1 .other m (λ g. y (omega arith)) ∙ t2 .other m (λ g. y (omega arith)) ∙ t3 .other m (λ g. y (omega arith)))
       ]) (size ∙ sym (t0 .size))
 
-  mark-block : (x : ℕ) → x ≡ getD p j 0 → Marking w q r n (4 * j + 4) c p → 4 * j + 4 ≤ d → c ≡ d + childCount (recordsOf 4 x) → j < length p
-      → recordsAt u (4 * j) 4 ≡ maskedAt (keptAt w p r) d (recordsOf 4 x) → ((m : ℕ) → (m / 4 ≡ j → ⊥) → recordAt u m ≡ recordAt p m) → length u ≡ length p → Marking w q r n (4 * j) d u
+  pub mark-block : (x : ℕ) → recordsAt q (4 * j) 4 ≡ recordsOf 4 x → Marking w q r n (4 * j + 4) c p → 4 * j + 4 ≤ d → c ≡ d + childCount (recordsOf 4 x) → j < length p
+      → recordsAt u (4 * j) 4 ≡ maskedAt (keptAt w p p r) d (recordsOf 4 x) → ((m : ℕ) → (m / 4 ≡ j → ⊥) → recordAt u m ≡ recordAt p m) → length u ≡ length p → Marking w q r n (4 * j) d u
   unfolding recordsAt tabulate recordsOf maskedAt childCount
-  mark-block x ex v hd hc room here other size =
-      let run : recordsAt q (4 * j) 4 ≡ recordsOf 4 x = tabulate-ext (λ k. recordAt q (4 * j + k)) (λ k. recordAt p (4 * j + k)) 4 (λ k h. sym (v .front (4 * j + k) (omega arith))) ∙ byte-run p j ∙ ap (recordsOf 4) (sym ex) in
+  mark-block x run v hd hc room here other size =
       four-steps (x / 4 / 4 / 4 % 4) (x / 4 / 4 % 4) (x / 4 % 4) (x % 4) (omega arith) (omega arith) (omega arith) (omega arith)
       (sym (ap (λ l. getD l 0 emptyRecord) run)) (sym (ap (λ l. getD l 1 emptyRecord) run)) (sym (ap (λ l. getD l 2 emptyRecord) run)) (sym (ap (λ l. getD l 3 emptyRecord) run)) v hd
       (hc ∙ sums d (children (recordOfCode (x / 4 / 4 / 4 % 4))) (children (recordOfCode (x / 4 / 4 % 4))) (children (recordOfCode (x / 4 % 4))) (children (recordOfCode (x % 4)))) room
@@ -255,19 +252,26 @@ module _ {w : ℕ} {q : Bytes} {r n : ℕ} (a : Entries q r n) (p u : Bytes) (j 
       sums : (d a b c e : ℕ) → d + (a + (b + (c + (e + 0)))) ≡ d + a + b + c + e
       sums d a b c e = omega arith
 
-pub marked-byte : {w : ℕ} {q : Bytes} {r n : ℕ} → Entries q r n → (p : Bytes) (i c k x t z : ℕ) → 0 < i → x ≡ getD p ((i - 1) / 4) 0 → Marking w q r n i c p
-    → MarkRoom w r i k c (length p) → k ≡ childCount (recordsOf 4 x) → (i - 1) / 4 < length p → t ≡ cond (ltb (c - k) r) 0 w
+-- the byte of record i - 1 is as it was
+pub byte-front : {w : ℕ} {q : Bytes} {r n i c : ℕ} {p : Bytes} → Marking w q r n i c p → 0 < i → i % 4 ≡ 0 → recordsAt q (4 * ((i - 1) / 4)) 4 ≡ recordsOf 4 (getD p ((i - 1) / 4) 0)
+unfolding recordsAt
+byte-front {q} {i} {p} v h e =
+    let j : ℕ = (i - 1) / 4 in
+    tabulate-ext (λ k. recordAt q (4 * j + k)) (λ k. recordAt p (4 * j + k)) 4 (λ k l. sym (v .front (4 * j + k) (omega arith))) ∙ byte-run p j
+
+pub marked-byte : {w : ℕ} {q : Bytes} {r n : ℕ} → Entries q r n → 1 ≤ w → (p : Bytes) (i c k x t z : ℕ) → 0 < i → recordsAt q (4 * ((i - 1) / 4)) 4 ≡ recordsOf 4 x → Marking w q r n i c p
+    → MarkRoom r i k c (length p) → k ≡ childCount (recordsOf 4 x) → (i - 1) / 4 < length p → t ≡ cond (ltb (c - k) r) 0 w
     → recordsOf 4 z ≡ maskedAt (λ m. keptBy t (recordAt p m)) (c - k) (recordsOf 4 x)
     → Marking w q r n (i - 4) (c - k) (set p ((i - 1) / 4) z)
-marked-byte {w} {q} {r} {n} a p i c k x t z h ex v m ek room et ez =
+marked-byte {w} {q} {r} {n} a one p i c k x t z h ex v m ek room et ez =
     let j : ℕ = (i - 1) / 4 in
     let u : Bytes = set p j z in
     let y4 : i ≡ 4 * j + 4 = omega (arith, m .whole) in
     let y0 : 4 * j ≡ i - 4 = omega arith in
     let ec : c ≡ c - k + childCount (recordsOf 4 x) = omega (arith, m .less) in
-    let here : recordsAt u (4 * j) 4 ≡ maskedAt (keptAt w p r) (c - k) (recordsOf 4 x) =
+    let here : recordsAt u (4 * j) 4 ≡ maskedAt (keptAt w p p r) (c - k) (recordsOf 4 x) =
     byte-run u j ∙ ap (recordsOf 4) (getD-set-same p j z 0 room) ∙ ez
-    ∙ masked-ext (λ o. keptBy t (recordAt p o)) (keptAt w p r) (c - k) (recordsOf 4 x) (kept-test w p r (c - k) t (childCount (recordsOf 4 x)) (m .flag .0) et (λ y. omega (arith, m .same y, ec))) in
+    ∙ masked-ext (λ o. keptBy t (recordAt p o)) (keptAt w p p r) (c - k) (recordsOf 4 x) (kept-test w p r (c - k) t (childCount (recordsOf 4 x)) one et (λ y. omega (arith, m .same y, ec))) in
     let hd : 4 * j + 4 ≤ c - k = omega (arith, m .behind) in
     let other : (o : ℕ) → (o / 4 ≡ j → ⊥) → recordAt u o ≡ recordAt p o = λ o f.
     let g : getD u (o / 4) 0 ≡ getD p (o / 4) 0 = getD-set-other p j (o / 4) z 0 f in

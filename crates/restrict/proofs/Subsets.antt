@@ -1,6 +1,6 @@
 -- What marking and collecting leave: the edges of the subset that the flags name.
 use mathlib.Core.Path.{_≡_, refl, sym, ap, _∙_}
-use Prim.Native.Nat.{ℕ, zero, suc, _+_, _-_, _*_, _/_, _≤_, _<_}
+use Prim.Native.Nat.{ℕ, zero, suc, _+_, _*_, _/_, _≤_, _<_}
 use mathlib.Core.Bool.{Bool, true, false, _&&_, _||_, not}
 use mathlib.Core.List.{List, [], _∷_, map}
 use native.Mathlib.Omega.{arith}
@@ -9,28 +9,31 @@ use lib.Dec.{ltb, eqb}
 use Rattle.loes.specs.Bytes.{Bytes, bit, bitAt, bitsIn, tabulate}
 use Rattle.loes.specs.Keys.{Key, KeySet, members, those, smaller, either, without}
 use Rattle.loes.specs.Edges.{Record, recordBits, ones, edges}
-use Rattle.loes.specs.Limits.{maxEdges}
 use Rattle.loes.specs.Prefixes.{inhabited, prefixCount, prefixesBefore, recordsBefore}
-use Rattle.loes.specs.Entry.{Entry, keysOf, count, edgesOf, edgeCount, withSet, ofWidth}
-use Rattle.loes.proofs.Tests.{eq-yes}
+use Rattle.loes.specs.Entry.{Entry, keysOf, count, edgesOf, edgeCount, withSet}
 use Rattle.loes.specs.Read.{entryAlong}
 use Rattle.loes.specs.Held.{entryHeld, Holds}
 use Rattle.loes.specs.Model.{unionEntry, differenceEntry}
-use Rattle.loes.proofs.Lists.{bits-append, length-bits, ones-append, length-those}
+use Rattle.loes.proofs.Lists.{bits-append, length-bits, ones-append}
 use Rattle.loes.proofs.Tree.{length-members, before-smaller, members-at, index-lt}
-use Rattle.loes.proofs.Navigation.{length-edgesBefore, ones-edgesBefore, present-is}
+use Rattle.loes.proofs.Navigation.{length-edgesBefore, ones-edgesBefore}
 use Rattle.loes.proofs.Bytes.{getD-tabulate, length-tabulate}
 use Rattle.loes.proofs.Bits.{length-bitsIn, tabulate-ext}
-use Rattle.loes.proofs.Extensional.{Agree, edges-ext, members-ext}
+use Rattle.loes.proofs.Extensional.{edges-ext}
+use Rattle.loes.proofs.Splits.{difference-fewer}
 use Rattle.loes.proofs.Forest.{NoEmpty}
 use Rattle.records.specs.Records.{emptyRecord, hasEdge, children, childrenBefore, recordAt, recordsTo, flagOfRecord, flagAt, flagsFrom, isFlag, Packed}
 use Rattle.merge.specs.Union.{flagOf, Merged}
-use Rattle.restrict.specs.Restriction.{restricted, flagMask, maskedFrom, Flagged, Entries, Marked, Restricted, Subtracts}
+use Rattle.restrict.specs.Restriction.{flagMask, Entries, Marks, Marked, Subtracts}
 use Rattle.records.proofs.Codes.{records-more, length-records}
 use Rattle.merge.proofs.Flags.{flags-count, flag-of}
 use Rattle.merge.proofs.Merging.{treeLevels, edges-levels}
-use Rattle.merge.proofs.Held.{RecordsHeld, held-records, held-length, some-records, edges-records}
+use Rattle.merge.proofs.Held.{RecordsHeld, held-length, some-records, edges-records}
 use Rattle.restrict.proofs.Restricting.{within, edge-children, no-empty-levels, restrict-edges, mask-members}
+
+-- the keys whose index, the number of smaller keys, a mask takes
+unfoldable restricted : (ℕ → Bool) → Entry → Entry
+restricted f e = withSet e (λ (k : Key). e .set k && f (smaller k (keysOf e)))
 
 -- ---- Every entry but the first is led to by an edge
 ones-one : (r : Record) → ones (recordBits (r ∷ [])) ≡ children r
@@ -54,7 +57,7 @@ full-at [] k c h = absurd (omega arith)
 full-at (x ∷ l) zero c h = edge-children x (unfold hasEdge in c .0)
 full-at (x ∷ l) (suc k) c h = full-at l k (c .1) (omega arith)
 
-pub held-entries : {m : ℕ} {s : KeySet} {l : Bytes} {r : ℕ} → 0 < m → RecordsHeld m s l r → (n : ℕ) → n ≡ length (members m s) → Entries l r n
+held-entries : {m : ℕ} {s : KeySet} {l : Bytes} {r : ℕ} → 0 < m → RecordsHeld m s l r → (n : ℕ) → n ≡ length (members m s) → Entries l r n
 unfolding edges recordsBefore prefixCount recordsTo
 held-entries {m} {s} {l} {r} p h n e =
     let k : childrenBefore l r ≡ ones (edges m s) = children-ones l r ∙ ap ones (ap recordBits (h .records) ∙ sym (edges-levels m s)) in
@@ -68,7 +71,7 @@ held-entries {m} {s} {l} {r} p h n e =
     }
 
 -- ---- What is left is the subset's edges
-pub marked-edges : (e : Entry) {w : ℕ} {q p : Bytes} {r n : ℕ} → RecordsHeld (e .width) (e .set) q r → n ≡ count e → Marked w q r n p
+marked-edges : (e : Entry) {w : ℕ} {q p : Bytes} {r n : ℕ} → RecordsHeld (e .width) (e .set) q r → n ≡ count e → Marks w q r n p
     → recordBits (those hasEdge (recordsTo p r)) ≡ edgesOf (restricted (flagMask w q r) e)
 unfolding edgesOf restricted withSet keysOf
 marked-edges e {w} {q} {p} {r} {n} h c v =
@@ -76,41 +79,6 @@ marked-edges e {w} {q} {p} {r} {n} h c v =
     let k : tabulate (flagMask w q r) n ≡ map f (keysOf e) = rw c (sym (mask-members e (flagMask w q r))) in
     rw (v .out, h .records, k) (restrict-edges (e .width) (e .set) f)
     ∙ edges-ext (e .width) (within (e .set) f) (restricted (flagMask w q r) e .set) (λ j g. unfold within in refl)
-
--- ---- Of flagged edge bytes
-module _ {m b n : ℕ} {q : Bytes} (h : Flagged m b n q) where
-  pub flagged-entries : Entries q (b / 2) n
-  unfolding count keysOf entryHeld entryAlong
-  flagged-entries = held-entries (h .positive) (held-records m b q (h .room) (h .same)) n (h .members)
-
-  flagged-held : RecordsHeld (entryHeld m b q .width) (entryHeld m b q .set) q (b / 2)
-  unfolding entryHeld entryAlong
-  flagged-held = held-records m b q (h .room) (h .same)
-
-  pub flagged-edges : {w : ℕ} {p : Bytes} → Marked w q (b / 2) n p → recordBits (those hasEdge (recordsTo p (b / 2))) ≡ edgesOf (restricted (flagMask w q (b / 2)) (entryHeld m b q))
-  flagged-edges v = marked-edges (entryHeld m b q) flagged-held (h .members) v
-
-  pub flagged-count : {w : ℕ} {p : Bytes} → Marked w q (b / 2) n p → edgeCount (restricted (flagMask w q (b / 2)) (entryHeld m b q)) ≡ 2 * length (those hasEdge (recordsTo p (b / 2)))
-  unfolding edgeCount
-  flagged-count {p} v = ap length (sym (flagged-edges v)) ∙ length-bits (those hasEdge (recordsTo p (b / 2)))
-
-  pub flagged-restricted : {w : ℕ} {p o u : Bytes} {k : ℕ} → Marked w q (b / 2) n p → Packed (recordBits (those hasEdge (recordsTo p (b / 2)))) o u k → k ≤ 2 * (b / 2)
-      → Restricted (flagMask w q (b / 2)) (entryHeld m b q) (b / 2) q o p u k
-  flagged-restricted v c g =
-      record { edges = rw (flagged-edges v) at c; less = g; flags = λ j i. unfold flagAt in rw (v .other j i); queue = v .size }
-
--- ---- A subset never has more edges
-length-from : (h : ℕ) (l : List Record) (k : List Bool) → length (maskedFrom h l k) ≡ length l
-unfolding maskedFrom
-length-from h [] k = refl
-length-from h (r ∷ l) k = ap suc (length-from (h - 1 + children r) l k)
-
-pub fewer-edges : (m : ℕ) (s p : KeySet) → length (edges m (within s p)) ≤ length (edges m s)
-fewer-edges m s p =
-    let l : List Record = treeLevels m 0 m s in
-    let k : List Record = maskedFrom 1 l (map p (members m s)) in
-    rw (← restrict-edges m s p, edges-levels m s, length-bits (those hasEdge k), length-bits l)
-    (omega (arith, length-those hasEdge k, length-from 1 l (map p (members m s))))
 
 -- ---- A merge's flags and edges
 module _ {e f : Entry} {q p : Bytes} {b n : ℕ} (v : Merged e f q p b n) where
@@ -121,11 +89,11 @@ module _ {e f : Entry} {q p : Bytes} {b n : ℕ} (v : Merged e f q p b n) where
       let z : b ≡ 2 * length (treeLevels (e .width) 0 (e .width) s) = sym (length-bitsIn p b) ∙ ap length (v .edges ∙ edges-levels (e .width) s) ∙ length-bits (treeLevels (e .width) 0 (e .width) s) in
       omega arith
 
-  pub merged-held : RecordsHeld (e .width) (either (e .set) (f .set)) p (b / 2)
+  merged-held : RecordsHeld (e .width) (either (e .set) (f .set)) p (b / 2)
   unfolding edgesOf withSet
   merged-held = record { records = edges-records (e .width) (either (e .set) (f .set)) p (b / 2) (rw merged-even (v .edges)); fits = omega (arith, v .flags .fits) }
 
-  pub merged-entries : 0 < e .width → Entries p (b / 2) n
+  merged-entries : 0 < e .width → Entries p (b / 2) n
   unfolding count keysOf withSet
   merged-entries h = held-entries h merged-held n (flags-count (v .flags))
 
@@ -141,7 +109,7 @@ module _ {e f : Entry} {q p : Bytes} {b n : ℕ} (v : Merged e f q p b n) where
       flag-of (v .flags) i c ∙ ap (flagOf (e .set) (f .set)) (ap (λ j. getD (members m s) j []) a ∙ members-at k m s l h)
 
   -- the members whose flag is w
-  pub flagged-set : (w : ℕ) (k : Key) → length k ≡ e .width
+  flagged-set : (w : ℕ) (k : Key) → length k ≡ e .width
       → restricted (flagMask w p (b / 2)) (unionEntry e f) .set k ≡ (either (e .set) (f .set) k && isFlag w (flagOf (e .set) (f .set) k))
   unfolding restricted withSet flagMask
   flagged-set w k l = go (either (e .set) (f .set) k) refl
@@ -150,6 +118,14 @@ module _ {e f : Entry} {q p : Bytes} {b n : ℕ} (v : Merged e f q p b n) where
           → (c && isFlag w (flagAt p (b / 2 + smaller k (keysOf (unionEntry e f))))) ≡ (c && isFlag w (flagOf (e .set) (f .set) k))
       go true h = ap (isFlag w) (flag-at k l h)
       go false h = refl
+
+  -- marked by flag w: the edges of those keys of the union that a set tells by it
+  pub part-edges : {z : Bytes} (w : ℕ) (s : KeySet) → ((k : Key) → (either (e .set) (f .set) k && isFlag w (flagOf (e .set) (f .set) k)) ≡ s k) → Marks w p (b / 2) n z
+      → recordBits (those hasEdge (recordsTo z (b / 2))) ≡ edges (e .width) s
+  unfolding edgesOf restricted withSet
+  part-edges w s h c =
+      marked-edges (unionEntry e f) merged-held (flags-count (v .flags)) c
+      ∙ edges-ext (e .width) (restricted (flagMask w p (b / 2)) (unionEntry e f) .set) s (λ k l. flagged-set w k l ∙ h k)
 
 -- 1: in the first only
 pub first-only : (s t : KeySet) (k : Key) → (either s t k && isFlag 1 (flagOf s t k)) ≡ without s t k
@@ -162,42 +138,31 @@ first-only s t k = go (s k) (t k)
     go false true = refl
     go false false = refl
 
-pub difference-edges : {e f : Entry} {q p : Bytes} {b n : ℕ} → Merged e f q p b n → edgesOf (restricted (flagMask 1 p (b / 2)) (unionEntry e f)) ≡ edgesOf (differenceEntry e f)
-unfolding edgesOf withSet restricted
-difference-edges {e} {f} {p} {b} v =
-    edges-ext (e .width) (restricted (flagMask 1 p (b / 2)) (unionEntry e f) .set) (without (e .set) (f .set)) (λ k l. flagged-set v 1 k l ∙ first-only (e .set) (f .set) k)
-
-pub subtracted : {e f : Entry} {q p x : Bytes} {b n : ℕ} → Merged e f q p b n → Marked 1 p (b / 2) n x → recordBits (those hasEdge (recordsTo x (b / 2))) ≡ edgesOf (differenceEntry e f)
-unfolding withSet
-subtracted {e} {f} v w = marked-edges (unionEntry e f) (merged-held v) (flags-count (v .flags)) w ∙ difference-edges v
-
-pub difference-fewer : (e f : Entry) → edgeCount (differenceEntry e f) ≤ edgeCount e
-unfolding edgeCount edgesOf withSet
-difference-fewer e f =
-    let p : KeySet = λ k. not (f .set k) in
-    rw (edges-ext (e .width) (without (e .set) (f .set)) (within (e .set) p) (λ k l. unfold without within in refl)) (fewer-edges (e .width) (e .set) p)
+pub subtracted : {e f : Entry} {q p z : Bytes} {b n : ℕ} → Merged e f q p b n → Marks 1 p (b / 2) n z → recordBits (those hasEdge (recordsTo z (b / 2))) ≡ edgesOf (differenceEntry e f)
+unfolding edgesOf withSet
+subtracted {e} {f} v w = part-edges v 1 (without (e .set) (f .set)) (first-only (e .set) (f .set)) w
 
 -- the difference, of a first set in x bits
 pub subtract-entries : {m x : ℕ} {a : Bytes} {f : Entry} {q p : Bytes} {b n : ℕ} → Holds m x a → Merged (entryHeld m x a) f q p b n → Entries p (b / 2) n
 unfolding entryHeld entryAlong
 subtract-entries h v = merged-entries v (h .positive)
 
-module _ {m x : ℕ} {a : Bytes} {f : Entry} {q p z : Bytes} {b n : ℕ} (h : Holds m x a) (v : Merged (entryHeld m x a) f q p b n) (w : Marked 1 p (b / 2) n z) where
+module _ {m x : ℕ} {a : Bytes} {f : Entry} {q p : Bytes} {b n : ℕ} (h : Holds m x a) (v : Merged (entryHeld m x a) f q p b n) where
   first-count : edgeCount (entryHeld m x a) ≡ x
   unfolding edgeCount bitsIn
   first-count = ap length (h .same) ∙ length-tabulate (bitAt a) x
 
-  pub subtracted-count : 2 * length (those hasEdge (recordsTo z (b / 2))) ≤ x
+  pub subtracted-count : {z : Bytes} → Marks 1 p (b / 2) n z → 2 * length (those hasEdge (recordsTo z (b / 2))) ≤ x
   unfolding edgeCount
-  subtracted-count =
+  subtracted-count {z} w =
       let l : List Record = those hasEdge (recordsTo z (b / 2)) in
       omega (arith, length-bits l, ap length (subtracted v w), difference-fewer (entryHeld m x a) f, first-count)
 
-  pub subtract-done : {o y : Bytes} {k : ℕ} → Packed (recordBits (those hasEdge (recordsTo z (b / 2)))) o y k → Subtracts (entryHeld m x a) f q o z y k (b / 2) n
+  pub subtract-done : {z o y : Bytes} {k : ℕ} → Marked 1 p (b / 2) n z → Packed (recordBits (those hasEdge (recordsTo z (b / 2)))) o y k → Subtracts (entryHeld m x a) f q o z y k (b / 2) n
   unfolding flagsFrom flagAt
-  subtract-done {k} c =
+  subtract-done {z} w c =
       record {
-        edges = rw (subtracted v w) at c;
+        edges = rw (subtracted v (w .marks)) at c;
         flags =
             record {
               each = tabulate-ext (λ j. flagAt z (b / 2 + j)) (λ j. flagAt p (b / 2 + j)) n (λ j h. ap flagOfRecord (w .other (b / 2 + j) (omega arith))) ∙ v .flags .each;
@@ -205,24 +170,3 @@ module _ {m x : ℕ} {a : Bytes} {f : Entry} {q p z : Bytes} {b n : ℕ} (h : Ho
             };
         queue = w .size ∙ v .size;
       }
-
--- ---- A merge can be restricted
-same-set : (e : Entry) (p : Bytes) (b : ℕ) → bitsIn p b ≡ edgesOf e → 0 < e .width → Agree (e .width) (entryHeld (e .width) b p .set) (e .set)
-unfolding edgesOf entryHeld entryAlong ofWidth
-same-set e p b w h k l = rw (w, l, eq-yes (e .width)) (present-is k (e .width) (e .set) l h)
-
-same-edges : (e : Entry) (p : Bytes) (b : ℕ) → bitsIn p b ≡ edgesOf e → 0 < e .width → edgesOf (entryHeld (e .width) b p) ≡ bitsIn p b
-unfolding edgesOf entryHeld entryAlong
-same-edges e p b w h = edges-ext (e .width) (entryHeld (e .width) b p .set) (e .set) (same-set e p b (unfold edgesOf in w) h) ∙ sym w
-
-pub merged-flagged : {e f : Entry} {q p : Bytes} {b n : ℕ} → Merged e f q p b n → 0 < e .width → length q ≤ maxEdges → Flagged (e .width) b n p
-unfolding count keysOf withSet entryHeld entryAlong
-merged-flagged {e} {f} {p} {b} v h l =
-    record {
-      positive = h;
-      same = same-edges (unionEntry e f) p b (v .edges) h;
-      room = omega (arith, v .flags .fits, merged-even v);
-      members = flags-count (v .flags) ∙ ap length (sym (members-ext (e .width) (entryHeld (e .width) b p .set) (either (e .set) (f .set)) (same-set (unionEntry e f) p b (v .edges) h)));
-      flags = v .flags .fits;
-      small = rw (v .size) l;
-    }

@@ -5,40 +5,18 @@ use mathlib.Core.Bool.{Bool, false, _&&_, cond}
 use mathlib.Core.List.{List, [], _∷_, _++_, map}
 use lib.ListN.{length, getD, drop}
 use lib.Dec.{ltb}
-use Rattle.loes.specs.Limits.{maxEdges}
-use Rattle.loes.specs.Bytes.{Bytes, bit, bitsIn, tabulate}
-use Rattle.loes.specs.Keys.{Key, smaller, those}
+use Rattle.loes.specs.Bytes.{Bytes, bit, tabulate}
+use Rattle.loes.specs.Keys.{those}
 use Rattle.loes.specs.Edges.{Record}
-use Rattle.loes.specs.Entry.{Entry, keysOf, count, edgesOf, withSet}
-use Rattle.loes.specs.Held.{entryHeld}
+use Rattle.loes.specs.Entry.{Entry, edgesOf}
 use Rattle.loes.specs.Model.{differenceEntry}
 use Rattle.merge.specs.Union.{MemberFlags}
-use Rattle.records.specs.Records.{hasEdge, children, childrenBefore, recordOfCode, recordAt, recordsTo, recordsAt, flagAt, isFlag, Packed}
+use Rattle.records.specs.Records.{emptyRecord, hasEdge, children, childrenBefore, recordAt, recordsTo, recordsAt, flagAt, isFlag, Packed}
 
 -- ---- On entries
--- the keys whose index, the number of smaller keys, a mask takes
-unfoldable pub restricted : (ℕ → Bool) → Entry → Entry
-restricted f e = withSet e (λ (k : Key). e .set k && f (smaller k (keysOf e)))
-
 -- the mask of those members whose flag, from place r on, is w
 unfoldable pub flagMask : ℕ → Bytes → ℕ → ℕ → Bool
 flagMask w q r i = isFlag w (flagAt q (r + i))
-
--- b edge bits, any number, that hold an entry of n members, whose flags stand behind its records
-pub record Flagged (m b n : ℕ) (q : Bytes) : Type 0 where
-  pub positive : 0 < m
-  pub same : edgesOf (entryHeld m b q) ≡ bitsIn q b
-  pub room : b ≤ 8 * length q
-  pub members : n ≡ count (entryHeld m b q)
-  pub flags : b / 2 + n ≤ 4 * length q
-  pub small : length q ≤ maxEdges
-
--- what restricting an entry of r records leaves: the subset's edges in b bits, no more than there were; the members' flags stay
-pub record Restricted (f : ℕ → Bool) (e : Entry) (r : ℕ) (q o p u : Bytes) (b : ℕ) : Type 0 where
-  pub edges : Packed (edgesOf (restricted f e)) o u b
-  pub less : b ≤ 2 * r
-  pub flags : (j : ℕ) → r ≤ j → flagAt p j ≡ flagAt q j
-  pub queue : length p ≡ length q
 
 -- what subtracting leaves: the difference's edges in b bits, and the flags of the union's n members from place r on
 pub record Subtracts (e f : Entry) (q o p u : Bytes) (b r n : ℕ) : Type 0 where
@@ -62,23 +40,28 @@ maskedFrom h (r ∷ l) p =
     maskRecord r (drop (h - 1) (map hasEdge (maskedFrom (h - 1 + children r) l p) ++ p)) ∷ maskedFrom (h - 1 + children r) l p
 
 -- ---- In bytes: the masked records take the places of the r records, in front of the members' flags
--- entry j is kept: a record with an edge left, or a member whose flag is w
-unfoldable pub keptAt : ℕ → Bytes → ℕ → ℕ → Bool
-keptAt w q r j = cond (ltb j r) (hasEdge (recordAt q j)) (isFlag w (flagAt q j))
+-- entry j is kept: a record with an edge left in z, or a member whose flag in q is w
+unfoldable pub keptAt : ℕ → Bytes → Bytes → ℕ → ℕ → Bool
+keptAt w z q r j = cond (ltb j r) (hasEdge (recordAt z j)) (isFlag w (flagAt q j))
 
 -- r records, each with an edge, and n members: every entry but the first is led to by an edge
 pub record Entries (e : Bytes) (r n : ℕ) : Type 0 where
   pub total : r + n ≡ bit (ltb 0 r) + childrenBefore e r
   pub full : (k : ℕ) → k < r → 1 ≤ children (recordAt e k)
 
--- record i of q is set to record x less the edges whose entries, from c on, are not kept
-pub record RecordMarked (w : ℕ) (q : Bytes) (r x i c : ℕ) (p : Bytes) : Type 0 where
-  pub size : length p ≡ length q
-  pub here : recordAt p i ≡ maskAt (keptAt w q r) c (recordOfCode x)
-  pub other : (j : ℕ) → (j ≡ i → ⊥) → recordAt p j ≡ recordAt q j
+-- record i of z is set to record s less the edges whose entries, from c on, are not kept
+pub record RecordMarked (w : ℕ) (q : Bytes) (r : ℕ) (s : Record) (z : Bytes) (i c : ℕ) (p : Bytes) : Type 0 where
+  pub here : recordAt p i ≡ maskAt (keptAt w z q r) c s
+  pub other : (j : ℕ) → (j ≡ i → ⊥) → recordAt p j ≡ recordAt z j
+  pub size : length p ≡ length z
 
-pub record Marked (w : ℕ) (q : Bytes) (r n : ℕ) (p : Bytes) : Type 0 where
+-- the r records of q less the edges under which no member has flag w
+pub record Marks (w : ℕ) (q : Bytes) (r n : ℕ) (p : Bytes) : Type 0 where
   pub out : recordsTo p r ≡ maskedFrom 1 (recordsTo q r) (tabulate (flagMask w q r) n)
+
+-- the same in their place
+pub record Marked (w : ℕ) (q : Bytes) (r n : ℕ) (p : Bytes) : Type 0 where
+  pub marks : Marks w q r n p
   pub other : (j : ℕ) → r ≤ j → recordAt p j ≡ recordAt q j
   pub size : length p ≡ length q
 
@@ -97,9 +80,29 @@ unfoldable pub childCount : List Record → ℕ
 childCount [] = 0
 childCount (r ∷ l) = children r + childCount l
 
--- what marking a byte whole needs. The first i records end with the byte's four. Their k edges lead to the k entries before c, which stand behind them and are all records, or all members; members are kept if their flag is w
-pub record MarkRoom (w r i k c l : ℕ) : Type 0 where
-  pub flag : (1 ≤ w) × (w ≤ 3)
+-- records with one edge each, less those whose entry, in the same place, has no edge
+unfoldable pub keptSingles : List Record → List Record → List Record
+keptSingles [] es = []
+keptSingles (r ∷ l) [] = []
+keptSingles (r ∷ l) (e ∷ es) = cond (hasEdge e) r emptyRecord ∷ keptSingles l es
+
+-- what marking sixteen records by one operation needs. They end the first i; each has at most one edge; their entries are the sixteen records before c
+pub record SingleRoom (q : Bytes) (r i c : ℕ) : Type 0 where
+  pub block : 16 ≤ i
+  pub whole : i % 4 ≡ 0
+  pub records : c ≤ r
+  pub behind : i + 16 ≤ c
+  pub queue : c / 4 < length q
+  pub single : (k : ℕ) → i ≤ k + 16 → k < i → children (recordAt q k) ≤ 1
+
+-- sixteen records, put from record i on, marked by those from record d on
+pub record SinglesMarked (l : List Record) (z : Bytes) (i d : ℕ) (p : Bytes) : Type 0 where
+  pub here : recordsAt p i 16 ≡ keptSingles l (recordsAt z d 16)
+  pub other : (j : ℕ) → (i ≤ j → j < i + 16 → ⊥) → recordAt p j ≡ recordAt z j
+  pub size : length p ≡ length z
+
+-- what marking a byte whole needs. The first i records end with the byte's four. Their k edges lead to the k entries before c, which stand behind them and are all records, or all members
+pub record MarkRoom (r i k c l : ℕ) : Type 0 where
   pub whole : i % 4 ≡ 0
   pub less : k ≤ c
   pub behind : i ≤ c - k

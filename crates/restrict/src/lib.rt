@@ -1,5 +1,5 @@
 // The edge bytes of a subset: the edges that lead to no kept member are dropped, from the last to the first, then the empty records.
-ghost use Prim.Native.Nat.{_+_, _-_, _*_, _/_, _%_, _<_, _≤_};
+ghost use Prim.Native.Nat.{ℕ, _+_, _-_, _*_, _/_, _%_, _^_, _<_, _≤_};
 ghost use mathlib.Core.Path.{_≡_};
 ghost use mathlib.Core.Bool.{true, _&&_, cond};
 ghost use mathlib.Core.List.{_++_, map};
@@ -9,15 +9,23 @@ ghost use Rattle.loes.specs.Limits.{maxEdges};
 ghost use Rattle.loes.specs.Bytes.{odd, bit};
 ghost use Rattle.loes.specs.Keys.{those};
 ghost use Rattle.loes.specs.Edges.{recordBits};
-ghost use Rattle.loes.specs.Entry.{edgeCount};
 ghost use Rattle.loes.specs.Held.{entryHeld, Holds};
-ghost use Rattle.records.specs.Records.{recordOfCode, recordAt, recordsTo, hasEdge, Packed};
+ghost use Rattle.records.specs.Records.{emptyRecord, recordOfCode, recordAt, recordsAt, recordsTo, hasEdge, children, Packed};
 ghost use Rattle.records.specs.Numbers.{recordsOf, bitsOf, Short, overread};
-ghost use Rattle.records.specs.Tables.{spread, byEdge, keptBy, Spreads, Parted, Runs, TablesLent};
+ghost use Rattle.records.specs.Tables.{spread, byEdge, keptBy, Spreads, Parted, Edged, TablesLent, EdgedLent};
 ghost use Rattle.merge.specs.Union.{QueueRoom};
-ghost use Rattle.restrict.specs.Restriction.{restricted, flagMask, Flagged, Restricted, Subtracts, keptAt, maskedAt, childCount, Entries, RecordMarked, MarkRoom, Marked, BlockCompacted, Compacted};
+ghost use Rattle.restrict.specs.Restriction.{Subtracts, keptAt, maskAt, maskedAt, childCount, Entries, keptSingles, SingleRoom, SinglesMarked, MarkRoom, Marked, BlockCompacted, Compacted};
 use bits::RecordIndex;
 use records::Run;
+
+// ---- Members
+
+// The flags of members: only the first set has it, only the second, both.
+pub const FIRST_ONLY: u8 = 1;
+
+pub const SECOND_ONLY: u8 = 2;
+
+pub const BOTH: u8 = 3;
 
 // ---- Restrict
 
@@ -36,40 +44,39 @@ fn is_flag(x: u8, w: u8) -> u8
     if x == w { 1 } else { 0 }
 }
 
-// 1 if entry j is kept: a record with an edge left, or a member whose flag is w.
-fn entry(q: &[u8], r: RecordIndex, w: u8, j: RecordIndex) -> u8
-    requires { ⌜ j .0 < 4 * length (now q) ⌝ }
-    ensures { λ k. ⌜ (k ≡ bit (keptAt w (now (q .entry)) (r .0) (j .0))) × (k ≤ 1) ⌝ }
+// 1 if entry j is kept: a record with an edge left in z, or a member whose flag in q is w.
+fn entry(q: &[u8], z: &[u8], r: RecordIndex, w: u8, j: RecordIndex) -> u8
+    requires { ⌜ (j .0 < 4 * length (now q)) × (r .0 ≤ 4 * length (now z)) ⌝ }
+    ensures { λ k. ⌜ (k ≡ bit (keptAt w (now (z .entry)) (now (q .entry)) (r .0) (j .0))) × (k ≤ 1) ⌝ }
 {
-    let x = records::record_at(q, j);
     if j.0 < r.0 {
-        has_edge(x)
+        has_edge(records::record_at(z, j))
     } else {
-        is_flag(x, w)
+        is_flag(records::record_at(q, j), w)
     }
 }
 
 // The same if f is odd, else 0.
-fn entry_if(f: u8, q: &[u8], r: RecordIndex, w: u8, j: RecordIndex) -> u8
-    requires { ⌜ (odd f ≡ true → j .0 < 4 * length (now q)) ⌝ }
-    ensures { λ k. ⌜ (k ≡ bit (odd f && keptAt w (now (q .entry)) (r .0) (j .0))) × (k ≤ 1) ⌝ }
+fn entry_if(f: u8, q: &[u8], z: &[u8], r: RecordIndex, w: u8, j: RecordIndex) -> u8
+    requires { ⌜ (odd f ≡ true → j .0 < 4 * length (now q)) × (r .0 ≤ 4 * length (now z)) ⌝ }
+    ensures { λ k. ⌜ (k ≡ bit (odd f && keptAt w (now (z .entry)) (now (q .entry)) (r .0) (j .0))) × (k ≤ 1) ⌝ }
 {
-    if f % 2 == 1 { entry(q, r, w, j) } else { 0 }
+    if f % 2 == 1 { entry(q, z, r, w, j) } else { 0 }
 }
 
-// Record i of q: record x less the edges that are not kept, whose entries are from c on.
-fn mark_record(q: &mut [u8], r: RecordIndex, w: u8, x: u8, i: RecordIndex, c: RecordIndex)
-    requires { ⌜ (c .0 + x / 2 + x % 2 ≤ 4 * length (now q)) × (x < 4) × (i .0 < 4 * length (now q)) × (length (now q) ≤ maxEdges) ⌝ }
-    ensures { λ _. ⌜ RecordMarked w (now (q .entry)) (r .0) x (i .0) (c .0) (now (q .exit)) ⌝ }
+// Record x less the edges that are not kept, whose entries are from c on.
+pub fn kept_record(q: &[u8], z: &[u8], r: RecordIndex, w: u8, x: u8, c: RecordIndex) -> u8
+    requires { ⌜ (c .0 + x / 2 + x % 2 ≤ 4 * length (now q)) × (x < 4) × (length (now q) ≤ maxEdges) × (r .0 ≤ 4 * length (now z)) ⌝ }
+    ensures { λ v. ⌜ (recordOfCode v ≡ maskAt (keptAt w (now (z .entry)) (now (q .entry)) (r .0)) (c .0) (recordOfCode x)) × (v < 4) ⌝ }
 {
-    let z = (x / 2) as usize;
-    let a = entry_if(x / 2, q, r, w, c);
-    let b = entry_if(x, q, r, w, RecordIndex(c.0 + z));
-    records::put_record(q, i, a * 2 + b);
+    let h = (x / 2) as usize;
+    let a = entry_if(x / 2, q, z, r, w, c);
+    let b = entry_if(x, q, z, r, w, RecordIndex(c.0 + h));
+    a * 2 + b
 }
 
 // How many edges a byte has.
-fn count_edges(parts: &[u32], x: u8) -> usize
+pub fn count_edges(parts: &[u32], x: u8) -> usize
     requires { ⌜ Parted (now parts) ⌝ }
     ensures { λ r. ⌜ (r ≡ childCount (recordsOf 4 x)) × (r ≤ 8) ⌝ }
 {
@@ -87,7 +94,7 @@ fn mark_half(spreads: &[u8], parts: &[u32], w: usize, x: usize, v: usize) -> usi
 }
 
 // The four records of a byte of edges, less the edges whose entries, from d on, fail test w.
-fn mark_byte(q: &[u8], spreads: &[u8], parts: &[u32], w: usize, x: u8, d: RecordIndex) -> usize
+pub fn mark_byte(q: &[u8], spreads: &[u8], parts: &[u32], w: usize, x: u8, d: RecordIndex) -> usize
     requires { ⌜ (w < 4) × (d .0 / 4 + 3 < length (now q)) × (d .0 ≤ 4 * maxEdges) ⌝ }
     requires { ⌜ Spreads (now spreads) × Parted (now parts) ⌝ }
     ensures { λ z. ⌜ (recordsOf 4 z ≡ maskedAt (λ m. keptBy w (recordAt (now (q .entry)) m)) (d .0) (recordsOf 4 x)) × (z < 256) ⌝ }
@@ -112,7 +119,7 @@ fn mark_byte(q: &[u8], spreads: &[u8], parts: &[u32], w: usize, x: u8, d: Record
 }
 
 // The test of a record: that it has an edge.
-const BY_EDGE: usize = 0;
+pub const BY_EDGE: usize = 0;
 
 // The test of entry d: of a member, that its flag is w.
 fn test_at(d: RecordIndex, r: RecordIndex, w: u8) -> usize
@@ -123,16 +130,10 @@ fn test_at(d: RecordIndex, r: RecordIndex, w: u8) -> usize
 
 // Whether a byte of k edges can be marked whole: the first i records end with its four, the k entries before c stand behind them, all of
 // them records, or members, and there are the bytes that are read.
-fn has_mark(w: u8, r: RecordIndex, i: RecordIndex, k: usize, c: RecordIndex, l: usize) -> bool
-    ensures { λ t. ⌜ (t ≡ true → MarkRoom w (r .0) (i .0) k (c .0) l) ⌝ }
+pub fn has_mark(r: RecordIndex, i: RecordIndex, k: usize, c: RecordIndex, l: usize) -> bool
+    ensures { λ t. ⌜ (t ≡ true → MarkRoom (r .0) (i .0) k (c .0) l) ⌝ }
 {
     if i.0 % 4 > 0 {
-        return false;
-    }
-    if w == 0 {
-        return false;
-    }
-    if w > 3 {
         return false;
     }
     if c.0 < k {
@@ -150,30 +151,109 @@ fn has_mark(w: u8, r: RecordIndex, i: RecordIndex, k: usize, c: RecordIndex, l: 
     d / 4 + 3 < l
 }
 
-// The first r records of q less the edges under which no member has flag w, from the last to the first, in their place: by bytes where it can be.
+// Sixteen records from record i on, as one number.
+fn sixteen(l: &[u8], i: RecordIndex) -> usize
+    requires { ⌜ i .0 / 4 + 4 < length (now l) ⌝ }
+    ensures { λ r. ⌜ (recordsOf 16 r ≡ recordsAt (now (l .entry)) (i .0) 16) × (r < 2 ^ 32) ⌝ }
+{
+    let at = i.0 / 4;
+    let x = records::block(l, at) * bits::BYTE + records::wide(l[at + 4]);
+    (x << (24 + 2 * (i.0 % 4))) >> 32
+}
+
+// The lower bit of each of sixteen records.
+const LOWER: usize = 0x55555555;
+
+// Whether none of sixteen records has two edges.
+fn no_double(x: usize) -> bool
+    ensures { λ t. ⌜ (t ≡ true → ((k : ℕ) → k < 16 → children (getD (recordsOf 16 x) k emptyRecord) ≤ 1)) ⌝ }
+{
+    (x & (x >> 1)) & LOWER == 0
+}
+
+// The records that are marked by one operation.
+pub const SINGLES: usize = 16;
+
+// Whether the last sixteen of the first i records can be: none has two edges, and their entries, before c, are records behind them. Blocks begin at every sixteenth record, so that none is tried twice.
+pub fn has_singles(q: &[u8], r: RecordIndex, i: RecordIndex, c: RecordIndex) -> bool
+    requires { ⌜ (i .0 ≤ r .0) × (r .0 ≤ 4 * length (now q)) × (length (now q) ≤ maxEdges) ⌝ }
+    ensures { λ t. ⌜ (t ≡ true → SingleRoom (now (q .entry)) (r .0) (i .0) (c .0)) ⌝ }
+{
+    if i.0 % SINGLES > 0 {
+        return false;
+    }
+    if i.0 < SINGLES {
+        return false;
+    }
+    if r.0 < c.0 {
+        return false;
+    }
+    if c.0 < i.0 + SINGLES {
+        return false;
+    }
+    if c.0 / 4 < q.len() {
+        no_double(records::block(q, (i.0 - SINGLES) / 4))
+    } else {
+        false
+    }
+}
+
+// Records of one edge in y, less those whose entry in e has none.
+fn keep_singles(y: usize, e: usize) -> usize
+    requires { ⌜ y < 2 ^ 32 ⌝ }
+    ensures { λ z. ⌜ (recordsOf 16 z ≡ keptSingles (recordsOf 16 y) (recordsOf 16 e)) × (z < 2 ^ 32) ⌝ }
+{
+    let h = (e | (e >> 1)) & LOWER;
+    y & (h * 3)
+}
+
+// Records in y, of one edge each, less those whose entry, from record d of z on, has none: sixteen, from record i on.
+pub fn mark_singles(y: usize, z: &mut [u8], i: RecordIndex, d: RecordIndex)
+    requires { ⌜ (i .0 % 4 ≡ 0) × (i .0 / 4 + 3 < length (now z)) × (d .0 / 4 + 4 < length (now z)) × (y < 2 ^ 32) ⌝ }
+    ensures { λ _. ⌜ SinglesMarked (recordsOf 16 y) (now (z .entry)) (i .0) (d .0) (now (z .exit)) ⌝ }
+{
+    let at = i.0 / 4;
+    let e = sixteen(z, d);
+    let k = keep_singles(y, e);
+    z[at] = (k >> 24) as u8;
+    z[at + 1] = ((k >> 16) % 256) as u8;
+    z[at + 2] = ((k >> 8) % 256) as u8;
+    z[at + 3] = (k % 256) as u8;
+}
+
+// The first r records of q less the edges under which no member has flag w, from the last to the first, in their place: by blocks and bytes where it can be.
 fn mark_bytes(spreads: &[u8], parts: &[u32], q: &mut [u8], r: RecordIndex, n: usize, w: u8)
     requires { ⌜ (r .0 + n ≤ 4 * length (now q)) × (length (now q) ≤ maxEdges) × Entries (now q) (r .0) n ⌝ }
     requires { ⌜ Spreads (now spreads) × Parted (now parts) ⌝ }
+    requires { ⌜ (1 ≤ w) × (w ≤ 3) ⌝ }
     ensures { λ _. ⌜ Marked w (now (q .entry)) (r .0) n (now (q .exit)) ⌝ }
 {
     let mut i = r.0;
     let mut c = r.0 + n;
     while i > 0 {
-        let j = i - 1;
-        let y = q[j / 4];
-        let k = count_edges(parts, y);
-        if has_mark(w, r, RecordIndex(i), k, RecordIndex(c), q.len()) {
-            let d = RecordIndex(c - k);
-            let z = mark_byte(q, spreads, parts, test_at(d, r, w), y, d);
-            q[j / 4] = z as u8;
-            c = d.0;
-            i -= 4;
+        if has_singles(q, r, RecordIndex(i), RecordIndex(c)) {
+            i -= SINGLES;
+            c -= SINGLES;
+            let y = records::block(q, i / 4);
+            mark_singles(y, q, RecordIndex(i), RecordIndex(c));
         } else {
-            let x = records::record_at(q, RecordIndex(j));
-            let d = c - (x / 2 + x % 2) as usize;
-            mark_record(q, r, w, x, RecordIndex(j), RecordIndex(d));
-            c = d;
-            i = j;
+            let j = i - 1;
+            let y = q[j / 4];
+            let k = count_edges(parts, y);
+            if has_mark(r, RecordIndex(i), k, RecordIndex(c), q.len()) {
+                let d = RecordIndex(c - k);
+                let z = mark_byte(q, spreads, parts, test_at(d, r, w), y, d);
+                q[j / 4] = z as u8;
+                c = d.0;
+                i -= 4;
+            } else {
+                let x = records::record_at(q, RecordIndex(j));
+                let d = c - (x / 2 + x % 2) as usize;
+                let z = kept_record(q, q, r, w, x, RecordIndex(d));
+                records::put_record(q, RecordIndex(j), z);
+                c = d;
+                i = j;
+            }
         }
     }
 }
@@ -198,7 +278,8 @@ fn mark_singly(q: &mut [u8], r: RecordIndex, n: usize, w: u8)
         let j = i - 1;
         let x = records::record_in(y, j % 4);
         let d = c - (x / 2 + x % 2) as usize;
-        mark_record(q, r, w, x, RecordIndex(j), RecordIndex(d));
+        let z = kept_record(q, q, r, w, x, RecordIndex(d));
+        records::put_record(q, RecordIndex(j), z);
         c = d;
         i = j;
         if j % 4 == 0 {
@@ -211,6 +292,7 @@ fn mark_singly(q: &mut [u8], r: RecordIndex, n: usize, w: u8)
 fn mark(spreads: &[u8], parts: &[u32], q: &mut [u8], r: RecordIndex, n: usize, w: u8)
     requires { ⌜ (r .0 + n ≤ 4 * length (now q)) × (length (now q) ≤ maxEdges) × Entries (now q) (r .0) n ⌝ }
     requires { ⌜ (0 < length (now spreads) → Spreads (now spreads) × Parted (now parts)) ⌝ }
+    requires { ⌜ (1 ≤ w) × (w ≤ 3) ⌝ }
     ensures { λ _. ⌜ Marked w (now (q .entry)) (r .0) n (now (q .exit)) ⌝ }
 {
     if spreads.len() > 0 {
@@ -220,31 +302,22 @@ fn mark(spreads: &[u8], parts: &[u32], q: &mut [u8], r: RecordIndex, n: usize, w
     }
 }
 
-// The records of a byte that have an edge.
-fn byte_run(parts: &[u32], runs: &[u16], x: u8) -> Run
-    requires { ⌜ Parted (now parts) × Runs (now runs) ⌝ }
-    ensures { λ r. ⌜ (recordsOf (r .bits / 2) (r .records) ≡ those hasEdge (recordsOf 4 x)) × Short 4 (r .records) (r .bits) ⌝ }
-{
-    let f = records::parts_at(parts, x);
-    records::run_at(runs, f.firsts, f.seconds)
-}
-
-// The same of two bytes.
-fn bytes_run(parts: &[u32], runs: &[u16], x: u8, y: u8) -> Run
-    requires { ⌜ Parted (now parts) × Runs (now runs) ⌝ }
+// The records of two bytes that have an edge.
+fn bytes_run(edged: &[u16], x: u8, y: u8) -> Run
+    requires { ⌜ Edged (now edged) ⌝ }
     ensures { λ r. ⌜ (recordsOf (r .bits / 2) (r .records) ≡ those hasEdge (recordsOf 4 x ++ recordsOf 4 y)) × Short 8 (r .records) (r .bits) ⌝ }
 {
-    let h = byte_run(parts, runs, x);
-    let g = byte_run(parts, runs, y);
+    let h = records::edged_at(edged, x);
+    let g = records::edged_at(edged, y);
     records::run_and(h, g)
 }
 
 // The records that are moved at a time.
 const MOVED: usize = 16;
 
-// Whether the records of four bytes can be moved: tables are lent, the next n records begin with theirs, and there is room behind the first k of l bytes.
-fn has_run(tables: usize, i: RecordIndex, n: usize, k: RecordIndex, l: usize) -> bool
-    ensures { λ r. ⌜ (r ≡ true → (0 < tables) × (i .0 % 4 ≡ 0) × (16 ≤ n) × (k .0 / 4 + 7 < l)) ⌝ }
+// Whether the records of four bytes can be moved: a table is lent, the next n records begin with theirs, and there is room behind the first k of l bytes.
+fn has_run(entries: usize, i: RecordIndex, n: usize, k: RecordIndex, l: usize) -> bool
+    ensures { λ r. ⌜ (r ≡ true → (0 < entries) × (i .0 % 4 ≡ 0) × (16 ≤ n) × (k .0 / 4 + 7 < l)) ⌝ }
 {
     if n < MOVED {
         return false;
@@ -252,26 +325,19 @@ fn has_run(tables: usize, i: RecordIndex, n: usize, k: RecordIndex, l: usize) ->
     if i.0 % 4 > 0 {
         return false;
     }
-    if tables == 0 {
+    if entries == 0 {
         return false;
     }
     k.0 / 4 + 7 < l
 }
 
 // The records of the four bytes from byte j of q on that have an edge, put behind the first k.
-fn compact_block(
-    q: &[u8],
-    parts: &[u32],
-    runs: &[u16],
-    j: usize,
-    out: &mut [u8],
-    k: RecordIndex,
-) -> RecordIndex
-    requires { ⌜ (j + 3 < length (now q)) × (k .0 / 4 + 7 < length (now out)) × (k .0 ≤ 4 * maxEdges) × Parted (now parts) × Runs (now runs) ⌝ }
+fn compact_block(q: &[u8], edged: &[u16], j: usize, out: &mut [u8], k: RecordIndex) -> RecordIndex
+    requires { ⌜ (j + 3 < length (now q)) × (k .0 / 4 + 7 < length (now out)) × (k .0 ≤ 4 * maxEdges) × Edged (now edged) ⌝ }
     ensures { λ r. ⌜ BlockCompacted (now (q .entry)) j (now (out .entry)) (k .0) (now (out .exit)) (r .0) ⌝ }
 {
-    let h = bytes_run(parts, runs, q[j], q[j + 1]);
-    let g = bytes_run(parts, runs, q[j + 2], q[j + 3]);
+    let h = bytes_run(edged, q[j], q[j + 1]);
+    let g = bytes_run(edged, q[j + 2], q[j + 3]);
     let c = records::run_and(h, g);
     let n = c.bits / 2;
     records::append(out, k, c);
@@ -279,24 +345,17 @@ fn compact_block(
 }
 
 // The first r records of q that have an edge, moved together.
-fn compact(
-    q: &[u8],
-    spreads: &[u8],
-    parts: &[u32],
-    runs: &[u16],
-    r: RecordIndex,
-    out: &mut [u8],
-) -> RecordIndex
+fn compact(q: &[u8], edged: &[u16], r: RecordIndex, out: &mut [u8]) -> RecordIndex
     requires { ⌜ (r .0 ≤ 4 * length (now q)) × (r .0 ≤ 4 * maxEdges) × (length (those hasEdge (recordsTo (now q) (r .0))) < 4 * length (now out)) ⌝ }
-    requires { ⌜ TablesLent (now spreads) (now parts) (now runs) ⌝ }
+    requires { ⌜ EdgedLent (now edged) ⌝ }
     ensures { λ k. ⌜ Compacted (now (q .entry)) (r .0) (now (out .entry)) (now (out .exit)) (k .0) ⌝ }
 {
     let end = r.0;
     let mut i = 0;
     let mut k = RecordIndex(0);
     while i < end {
-        if has_run(spreads.len(), RecordIndex(i), end - i, k, out.len()) {
-            k = compact_block(q, parts, runs, i / 4, out, k);
+        if has_run(edged.len(), RecordIndex(i), end - i, k, out.len()) {
+            k = compact_block(q, edged, i / 4, out, k);
             i += MOVED;
         } else {
             let x = records::record_at(q, RecordIndex(i));
@@ -308,49 +367,17 @@ fn compact(
 }
 
 // The same, and what is left of their last byte cleared: how many bits they are.
-fn collect(
-    q: &[u8],
-    spreads: &[u8],
-    parts: &[u32],
-    runs: &[u16],
-    r: RecordIndex,
-    out: &mut [u8],
-) -> usize
+pub fn collect(q: &[u8], edged: &[u16], r: RecordIndex, out: &mut [u8]) -> usize
     requires { ⌜ (r .0 ≤ 4 * length (now q)) × (r .0 ≤ 4 * maxEdges) × (length (those hasEdge (recordsTo (now q) (r .0))) < 4 * length (now out)) ⌝ }
-    requires { ⌜ TablesLent (now spreads) (now parts) (now runs) ⌝ }
+    requires { ⌜ EdgedLent (now edged) ⌝ }
     ensures { λ b. ⌜ Packed (recordBits (those hasEdge (recordsTo (now (q .entry)) (r .0)))) (now (out .entry)) (now (out .exit)) b × (b ≤ 2 * r .0) ⌝ }
 {
-    let k = compact(q, spreads, parts, runs, r, out);
+    let k = compact(q, edged, r, out);
     records::seal(out, k);
     2 * k.0
 }
 
-// The edges of the members whose flag is w, of a set of m bits whose b edges stand in front of q, and the flags of its n members behind them.
-pub fn restrict(
-    m: usize,
-    b: usize,
-    n: usize,
-    w: u8,
-    spreads: &[u8],
-    parts: &[u32],
-    runs: &[u16],
-    q: &mut [u8],
-    out: &mut [u8],
-) -> usize
-    requires { ⌜ Flagged m b n (now q) ⌝ }
-    requires { ⌜ TablesLent (now spreads) (now parts) (now runs) ⌝ }
-    requires { ⌜ edgeCount (restricted (flagMask w (now q) (b / 2)) (entryHeld m b (now q))) < 8 * length (now out) ⌝ }
-    ensures { λ k. ⌜ Restricted (flagMask w (now (q .entry)) (b / 2)) (entryHeld m b (now (q .entry))) (b / 2) (now (q .entry)) (now (out .entry)) (now (q .exit)) (now (out .exit)) k ⌝ }
-{
-    let r = RecordIndex(b / 2);
-    mark(spreads, parts, q, r, n, w);
-    collect(q, spreads, parts, runs, r, out)
-}
-
 // ---- Difference
-
-// The flag of the members that only the first set has.
-pub const FIRST_ONLY: u8 = 1;
 
 // The edge bits of a difference; where in the queue the members of the union are flagged, and how many.
 pub struct Remainder {
@@ -369,12 +396,14 @@ pub fn subtract(
     spreads: &[u8],
     parts: &[u32],
     runs: &[u16],
+    edged: &[u16],
     q: &mut [u8],
     out: &mut [u8],
 ) -> Remainder
     requires { ⌜ Holds m ba (now a) × (ba / 2 + overread ≤ 4 * length (now a)) ⌝ }
     requires { ⌜ Holds m bb (now b) × (bb / 2 + overread ≤ 4 * length (now b)) ⌝ }
     requires { ⌜ TablesLent (now spreads) (now parts) (now runs) ⌝ }
+    requires { ⌜ EdgedLent (now edged) ⌝ }
     requires { ⌜ QueueRoom ba bb (now q) × (ba < 8 * length (now out)) ⌝ }
     ensures { λ k. ⌜ Subtracts (entryHeld m ba (now (a .entry))) (entryHeld m bb (now (b .entry))) (now (q .entry)) (now (out .entry)) (now (q .exit)) (now (out .exit)) (k .edges) (k .flags .0) (k .flagged) ⌝ }
 {
@@ -382,7 +411,7 @@ pub fn subtract(
     let r = RecordIndex(u.edges / 2);
     let n = u.members;
     mark(spreads, parts, q, r, n, FIRST_ONLY);
-    let edges = collect(q, spreads, parts, runs, r, out);
+    let edges = collect(q, edged, r, out);
     Remainder {
         edges,
         flags: r,

@@ -14,8 +14,8 @@ use Rattle.loes.proofs.Bits.{length-bitsIn}
 use Rattle.records.specs.Records.{Sealed, Packed}
 use Rattle.records.proofs.Sealing.{written, written-bits, written-room}
 use Rattle.merge.proofs.Queue.{even-edges}
-use Rattle.restrict.specs.Restriction.{Flagged}
 use Rattle.join.specs.Joining.{Joined}
+use Rattle.weights.specs.Lists.{Flagged}
 
 -- 14 is told by the lengths alone
 pub short-is : {A : Type 0} (x : Bytes) (l ws : List A) (out : Bytes) (end n : ℕ) (b : Bool) → length x ≡ end → length l ≡ n → b ≡ (ltb (length out) end || ltb (length ws) n)

@@ -9,7 +9,7 @@ use lib.ListN.{length}
 use lib.Dec.{eqb}
 use Rattle.loes.specs.Limits.{maxEdges}
 use Rattle.loes.specs.Bytes.{Bytes, tabulate, bitsIn}
-use Rattle.loes.specs.Entry.{Entry, count, withSet}
+use Rattle.loes.specs.Entry.{Entry, count, edgesOf, withSet}
 use Rattle.loes.specs.Refusals.{wrongList, overflow, test, firstOf}
 use Rattle.loes.specs.Read.{read, entryIn, entryAlong}
 use Rattle.loes.specs.Held.{entryHeld}
@@ -21,15 +21,14 @@ use Rattle.encoding.specs.Opened.{Opens}
 use Rattle.encoding.specs.declared.Encoding.{Encoding}
 use Rattle.encoding.proofs.Opened.{opens-valid}
 use Rattle.merge.specs.Union.{Merged}
-use Rattle.restrict.specs.Restriction.{Flagged, Subtracts}
-use Rattle.restrict.proofs.Subsets.{merged-flagged}
+use Rattle.restrict.specs.Restriction.{Subtracts}
 use Rattle.join.specs.declared.Join.{Join}
 use Rattle.join.specs.declared.Join.the-variants as join
 use Rattle.join.specs.Joining.{pairRefusal, Joined, large, queueFor, edgesFor, Rooms}
 use Rattle.join.proofs.Joins.{widths-same, pair-refused, first, second, first-held, second-held, same-width, join-sized, joined, held-asked}
 use Rattle.weights.specs.Weights.{Weights, outputs, leaving, listTest, weightOf, listed, sumOf, sumTest, writesWith, unionWeighted, differenceWeighted, unionWeightedCall, differenceWeightedCall}
 use Rattle.weights.specs.Answers.{weightedCall}
-use Rattle.weights.specs.Lists.{sumAt, overAt, anyBelow, keptTo, FlagsFit}
+use Rattle.weights.specs.Lists.{sumAt, overAt, anyBelow, keptTo, FlagsFit, Flagged}
 use Rattle.weights.proofs.Writes.{writes-refused, writes-on}
 use Rattle.weights.proofs.Lists.{list-passes, list-fails, length-listed}
 use Rattle.weights.proofs.Members.{sums-listed, sums-tested, kept-listed}
@@ -91,7 +90,12 @@ module _ (a b : Bytes) (e f : Encoding) (p : Opens a e) (q : Opens b f) (w : e .
         ∙ along-sized (unionEntry (entryIn a) (entryIn b)) (opens-valid a e p .positive) (join-sized join.Union (entryIn a) (entryIn b) (opens-valid a e p) (opens-valid b f q) alike)
 
     pub union-flagged : length Q ≤ maxEdges → Flagged (e .width) k n P
-    union-flagged small = rw (p .width) (merged-flagged merged (opens-valid a e p .positive) small)
+    union-flagged small =
+        record {
+          positive = omega (arith, p .width, opens-valid a e p .positive);
+          same = ap edgesOf union-held ∙ sym (merged .edges);
+          flags = record { fits = merged .flags .fits; small = omega (arith, merged .size) };
+        }
 
     pub union-call : (wa wb : Weights) (out : Bytes) (ws : Weights) → length wa ≡ count (entryIn a) → length wb ≡ count (entryIn b)
         → writesWith [] (test (anyBelow (overAt P (k / 2) wa wb) n) overflow ∷ []) (entryHeld (e .width) k P) (tabulate (sumAt P (k / 2) wa wb) n) out ws

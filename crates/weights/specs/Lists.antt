@@ -1,13 +1,15 @@
 -- The lists of a join, member by member: the flags that merging leaves say which of two sets has each member of their union, in order.
 use mathlib.Core.Path.{_≡_}
-use Prim.Native.Nat.{ℕ, zero, suc, _+_, _*_, _≤_, _<_}
+use Prim.Native.Nat.{ℕ, zero, suc, _+_, _*_, _/_, _≤_, _<_}
 use mathlib.Core.Bool.{Bool, _&&_, cond}
 use mathlib.Core.List.{[], _∷_, _++_}
 use lib.IntN.{ℤ, _+ℤ_}
 use lib.ListN.{length, getD}
 use Rattle.loes.specs.Limits.{maxEdges}
-use Rattle.loes.specs.Bytes.{Bytes, tabulate}
+use Rattle.loes.specs.Bytes.{Bytes, tabulate, bitsIn}
 use Rattle.loes.specs.Keys.{anyOf}
+use Rattle.loes.specs.Entry.{edgesOf}
+use Rattle.loes.specs.Held.{entryHeld}
 use Rattle.records.specs.Records.{recordOfCode, recordAt, flagAt, flagsFrom, isFlag, firstCount, secondCount}
 use Rattle.weights.specs.Weights.{Weights, noWeight, outside}
 
@@ -42,6 +44,12 @@ keptTo q r wa (suc i) = keptTo q r wa i ++ cond (isFlag 1 (flagAt q (r + i))) (f
 pub record FlagsFit (q : Bytes) (r n : ℕ) : Type 0 where
   pub fits : r + n ≤ 4 * length q
   pub small : length q ≤ maxEdges
+
+-- b edge bits that hold an entry, with the flags of n members behind its records
+pub record Flagged (m b n : ℕ) (q : Bytes) : Type 0 where
+  pub positive : 0 < m
+  pub same : edgesOf (entryHeld m b q) ≡ bitsIn q b
+  pub flags : FlagsFit q (b / 2) n
 
 -- the flag of member i, read as f
 pub record FlagRead (q : Bytes) (r i f : ℕ) : Type 0 where

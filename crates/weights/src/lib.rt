@@ -7,9 +7,8 @@ ghost use lib.IntN.{_+ℤ_};
 ghost use lib.ListN.{length, getD};
 ghost use lib.Dec.{ltb};
 ghost use Rattle.loes.specs.Limits.{maxWidth, maxEdges};
-ghost use Rattle.loes.specs.Bytes.{odd, tabulate, front};
+ghost use Rattle.loes.specs.Bytes.{odd, tabulate};
 ghost use Rattle.loes.specs.Entry.{count, edgeCount};
-ghost use Rattle.loes.specs.Encode.{encode};
 ghost use Rattle.loes.specs.Held.{entryHeld};
 ghost use Rattle.loes.specs.Model.{batchEntry};
 ghost use Rattle.loes.specs.Read.{entryIn, endOf};
@@ -18,11 +17,10 @@ ghost use Rattle.bits.specs.Tables.{Tallies};
 ghost use Rattle.encoding.specs.Opened.{Opens};
 ghost use Rattle.pack.specs.Packing.{Ready};
 ghost use Rattle.merge.specs.Union.{QueueRoom};
-ghost use Rattle.restrict.specs.Restriction.{Flagged};
 ghost use Rattle.join.specs.Joining.{Joined, tiny, small, middle, Rooms};
 ghost use Rattle.weights.specs.Weights.{outside, noWeight, writesWith, post as postTo, unionWeighted, differenceWeighted, packWeightedCall, postCall, unionWeightedCall, differenceWeightedCall};
 ghost use Rattle.weights.specs.Answers.{postingOutcome, weightedOutcome, postedAt, weightedCall};
-ghost use Rattle.weights.specs.Lists.{taken, sumAt, overAt, anyBelow, keptTo, FlagsFit, FlagRead};
+ghost use Rattle.weights.specs.Lists.{taken, sumAt, overAt, anyBelow, keptTo, FlagsFit, Flagged, FlagRead};
 use bits::RecordIndex;
 use build::Written;
 use encoding::Checked;
@@ -273,16 +271,6 @@ fn either_short(m: usize, b: usize, n: usize, room: usize, places: usize) -> boo
     either(build::too_short(m, b, room), places < n)
 }
 
-// The encoding of the entry that k edge bits hold, at the front of a buffer that has room for it; tells its length.
-fn put_encoding(m: usize, k: usize, edges: &[u8], t: &[u8], out: &mut [u8]) -> usize
-    requires { ⌜ Joined m k (now edges) × Tallies (now t) × (k ≤ maxEdges) × (endOf m k ≤ length (now out)) ⌝ }
-    ensures { λ r. ⌜ (r ≡ endOf m k) × (now (out .exit) ≡ front (encode (entryHeld m k (now (edges .entry)))) (now (out .entry))) ⌝ }
-{
-    let n = bits::bytes_for(k);
-    build::write_fitting(m, k, &edges[..n], t, out);
-    build::length_of(m, k)
-}
-
 // The union's encoding and its list, from what merging left in the queue: 5, 14, 17.
 fn write_union(
     m: usize,
@@ -311,7 +299,7 @@ fn write_union(
     }
     write_sums(q, r, wa, wb, &mut list[..n]);
     records::seal(q, r);
-    Written::Length(put_encoding(m, k, q, t, out))
+    Written::Length(join::put_encoding(m, k, q, t, out))
 }
 
 // The difference's encoding and its list, from what subtracting left: 5, 14.
@@ -339,7 +327,7 @@ fn write_difference(
         return Written::Refused(refusal::SHORT_BUFFER);
     }
     write_kept(q, d.flags, d.flagged, wa, &mut list[..n]);
-    Written::Length(put_encoding(m, k, edges, t, out))
+    Written::Length(join::put_encoding(m, k, edges, t, out))
 }
 
 // The union of two opened encodings of one width: 16, then as above.

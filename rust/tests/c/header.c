@@ -12,7 +12,10 @@
         }                                                                    \
     } while (0)
 
-static uint8_t out[LOES_MAX_BYTES];
+/* Two encodings split into the three buffers, of which so many bytes are lent. */
+#define SPLIT(x, y, p, q, r) loes_split(x, sizeof x, y, sizeof y, both, p, only_first, q, only_second, r)
+
+static uint8_t out[LOES_MAX_BYTES], both[LOES_MAX_BYTES], only_first[LOES_MAX_BYTES], only_second[LOES_MAX_BYTES];
 
 /* Whether an answer has these fields. */
 static int is(loes_answer answer, uint32_t refusal, uint32_t found, uint64_t value) {
@@ -24,11 +27,21 @@ static int spans(loes_range range, uint32_t refusal, uint64_t first, uint64_t co
     return range.refusal == refusal && range.first.index == first && range.count == count;
 }
 
+/* Whether lengths have these fields. */
+static int tells(loes_lengths lengths, uint32_t refusal, uint64_t x, uint64_t y, uint64_t z) {
+    return lengths.refusal == refusal && lengths.both == x && lengths.only_first == y && lengths.only_second == z;
+}
+
+/* Whether a buffer has an encoding in front and the byte behind it untouched. */
+static int holds(const uint8_t *buffer, const uint8_t *encoding, size_t length) {
+    return memcmp(buffer, encoding, length) == 0 && buffer[length] == 0xEE;
+}
+
 int main(void) {
     const uint8_t batch[] = {0x00, 0x60, 0xC0};
     uint8_t set[48], key[LOES_MAX_KEY_BYTES];
 
-    REQUIRE(sizeof(loes_answer) == 16 && sizeof(loes_opened) == 24 && sizeof(loes_range) == 24);
+    REQUIRE(sizeof(loes_answer) == 16 && sizeof(loes_opened) == 24 && sizeof(loes_range) == 24 && sizeof(loes_lengths) == 32);
     REQUIRE(sizeof(loes_cursor) == (1 + LOES_CURSOR_OFFSETS) * sizeof(uint64_t));
     REQUIRE(sizeof(loes_member_index) == sizeof(uint64_t) && sizeof(loes_edge_offset) == sizeof(uint64_t));
 
@@ -67,6 +80,34 @@ int main(void) {
 
     REQUIRE(is(loes_union(set, sizeof set, set, sizeof set, out, sizeof out), 0, 1, 48) && memcmp(out, set, 48) == 0);
     REQUIRE(is(loes_difference(set, sizeof set, set, sizeof set, out, sizeof out), 0, 1, 36) && memcmp(out + 36, set + 36, 12) == 0);
+
+    /* 000 and 011, and 011 and 110: one key in each of the three */
+    uint8_t left[47], right[48], part[47];
+    REQUIRE(is(loes_pack(3, batch, 2, left, sizeof left), 0, 1, 47));
+    REQUIRE(is(loes_pack(3, batch + 1, 2, right, sizeof right), 0, 1, 48));
+    memset(both, 0xEE, sizeof both);
+    memset(only_first, 0xEE, sizeof only_first);
+    memset(only_second, 0xEE, sizeof only_second);
+    /* refused, each buffer keeps its bytes, whether none of them are lent or all */
+    REQUIRE(tells(SPLIT(left, right, 46, sizeof only_first, sizeof only_second), LOES_SHORT_BUFFER, 0, 0, 0));
+    REQUIRE(tells(SPLIT(left, right, sizeof both, 46, sizeof only_second), LOES_SHORT_BUFFER, 0, 0, 0));
+    REQUIRE(tells(SPLIT(left, right, sizeof both, sizeof only_first, 46), LOES_SHORT_BUFFER, 0, 0, 0));
+    REQUIRE(is(loes_pack(4, batch, 0, out, sizeof out), 0, 1, 40));
+    for (size_t n = 0; n <= LOES_MAX_BYTES; n += LOES_MAX_BYTES) {
+        REQUIRE(tells(loes_split(left, 46, right, 1, both, n, only_first, n, only_second, n), LOES_TRUNCATED, 0, 0, 0));
+        REQUIRE(tells(loes_split(left, 47, right + 1, 47, both, n, only_first, n, only_second, n), LOES_WRONG_TAG, 0, 0, 0));
+        REQUIRE(tells(loes_split(left, 47, out, 40, both, n, only_first, n, only_second, n), LOES_TWO_WIDTHS, 0, 0, 0));
+    }
+    for (size_t i = 0; i < LOES_MAX_BYTES; i++)
+        REQUIRE(both[i] == 0xEE && only_first[i] == 0xEE && only_second[i] == 0xEE);
+    REQUIRE(tells(SPLIT(left, right, 47, 47, 47), 0, 47, 47, 47));
+    REQUIRE(is(loes_pack(3, batch + 1, 1, part, sizeof part), 0, 1, 47) && holds(both, part, 47));
+    REQUIRE(is(loes_pack(3, batch, 1, part, sizeof part), 0, 1, 47) && holds(only_first, part, 47));
+    REQUIRE(is(loes_pack(3, batch + 2, 1, part, sizeof part), 0, 1, 47) && holds(only_second, part, 47));
+    REQUIRE(tells(SPLIT(set, right, sizeof both, sizeof only_first, sizeof only_second), 0, 48, 47, 36) && holds(both, right, 48));
+    REQUIRE(tells(SPLIT(set, set, sizeof both, sizeof only_first, sizeof only_second), 0, 48, 36, 36) && holds(both, set, 48));
+    REQUIRE(is(loes_pack(3, batch, 0, part, sizeof part), 0, 1, 36));
+    REQUIRE(memcmp(only_first, part, 36) == 0 && memcmp(only_second, part, 36) == 0);
 
     loes_cursor cursor = {LOES_BEFORE, {{0}}};
     for (int i = 0; i < 3; i++) {

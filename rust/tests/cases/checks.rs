@@ -151,6 +151,10 @@ pub fn check_refused<S: Subject>(rng: &mut Rng, bytes: &[u8], number: u64) {
     same(rng, room, &what, |_| Err(number), |out| S::union(&right, bytes, out));
     same(rng, room, &what, |_| Err(number), |out| S::difference(&right, bytes, out));
     same(rng, room, &what, |_| Err(2), |out| S::union(&[9, 9, 9], bytes, out));
+    let rooms = [(); 3].map(|()| rng.below(100));
+    let _ = same_three(rng, rooms, &what, |_| Err(number), |outs| S::split(bytes, &right, outs));
+    let _ = same_three(rng, rooms, &what, |_| Err(number), |outs| S::split(&right, bytes, outs));
+    let _ = same_three(rng, rooms, &what, |_| Err(2), |outs| S::split(&[9, 9, 9], bytes, outs));
     check_refused_weighted::<S>(rng, bytes, number);
     let state = *rng.pick(&[0, 1, 2, 3]);
     let mut offsets: Vec<u64> = (0..256).map(|_| if state == 1 { rng.next() } else { 0 }).collect();
@@ -309,7 +313,7 @@ pub fn check_history<S: Subject>(rng: &mut Rng, calls: usize) {
         let mut right = rng.bytes(room + 2 * GUARD);
         let mut got = right.clone();
         let (right_out, out) = (&mut right[GUARD..GUARD + room], &mut got[GUARD..GUARD + room]);
-        match rng.below(12) {
+        match rng.below(14) {
             0 | 1 => {
                 let set = random_set(rng, width, 60);
                 let (width, batch) = if rng.one_in(3) { damaged_batch(rng, &set) } else { (width as u64, batch_of(&set)) };
@@ -334,6 +338,16 @@ pub fn check_history<S: Subject>(rng: &mut Rng, calls: usize) {
                 model.extend(added);
             }
             5 | 6 => {
+                // three more, in that order, or none
+                let (Some(a), Some(b)) = (model.get(place), model.get(other)) else { continue };
+                let parts = plain::split_laid(&a.set, &b.set);
+                let rooms = [(); 3].map(|()| if rng.one_in(12) { rng.below(1_500) } else { 68_695 });
+                if let Ok(written) = check_split_into::<S>(rng, rooms, [&store[place], &store[other]], &parts) {
+                    store.extend(written);
+                    model.extend(parts.into_iter().flatten());
+                }
+            }
+            7 | 8 => {
                 let Some(laid) = model.get(place) else { continue };
                 let asked = some_prefixes(rng, laid, 1);
                 let Prefix { bits, bytes } = rng.pick(&asked);

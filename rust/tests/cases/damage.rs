@@ -58,6 +58,20 @@ pub fn damaged_batch(rng: &mut Rng, set: &Set) -> (u64, Vec<u8>) {
 
 // ---- Encodings
 
+pub type Damage = fn(&mut Vec<u8>);
+
+/// Ways to damage an encoding, each with its refusal.
+pub const DAMAGES: [(u64, Damage); 8] = [
+    (1, |bytes| bytes.truncate(bytes.len() - 1)),
+    (1, |bytes| bytes.clear()),
+    (2, |bytes| bytes[0] = 9),
+    (3, |bytes| bytes[2] = 3),
+    (4, |bytes| bytes[3..5].fill(0)),
+    (5, |bytes| bytes[15..].fill(0xFF)),
+    (6, |bytes| bytes.push(0)),
+    (7, |bytes| bytes[11] ^= 1),
+];
+
 /// Where the fields begin: six starts, and the end.
 pub fn field_starts(bytes: &[u8]) -> Vec<usize> {
     let mut starts = vec![0];

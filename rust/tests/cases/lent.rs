@@ -2,8 +2,8 @@
 
 use std::fmt::Debug;
 
-use super::{entries, Rng};
-use crate::plain::{self, Answer, Weighed};
+use super::{entries, Faults, Rng};
+use crate::plain::{self, Answer, LengthsAnswer, Weighed};
 
 pub const GUARD: usize = 24;
 
@@ -20,9 +20,13 @@ pub fn same<R: PartialEq + Debug>(
     let right_answer = expected(&mut right[GUARD..GUARD + room]);
     let answer = actual(&mut got[GUARD..GUARD + room]);
     assert_eq!(answer, right_answer, "{}, room {room}", what());
+    same_bytes(&got, &right, &|| format!("{}, room {room}", what()));
+}
+
+fn same_bytes(got: &[u8], right: &[u8], what: &dyn Fn() -> String) {
     if got != right {
-        let at = got.iter().zip(&right).position(|(x, y)| x != y).unwrap() as i64 - GUARD as i64;
-        panic!("{}, room {room}: byte {at} of the buffer differs", what());
+        let at = got.iter().zip(right).position(|(x, y)| x != y).unwrap() as i64 - GUARD as i64;
+        panic!("{}: byte {at} of the buffer differs", what());
     }
 }
 
@@ -116,5 +120,64 @@ pub fn check_writes_weighted(
             let expected = |out: &mut [u8], list: &mut [i32]| result.as_ref().map_err(|refusal| *refusal)?.write(out, list);
             same_outputs(rng, [room, list_room], what, expected, &call);
         }
+    }
+}
+
+/// The same for a call that is lent three buffers. What it wrote, or its refusal.
+pub fn same_three(
+    rng: &mut Rng,
+    rooms: [usize; 3],
+    what: &dyn Fn() -> String,
+    expected: impl FnOnce([&mut [u8]; 3]) -> LengthsAnswer,
+    actual: impl FnOnce([&mut [u8]; 3]) -> LengthsAnswer,
+) -> Result<[Vec<u8>; 3], u64> {
+    let what = || format!("{}, rooms {rooms:?}", what());
+    let mut right = rooms.map(|room| rng.bytes(room + 2 * GUARD));
+    let mut got = right.clone();
+    fn lent(buffers: &mut [Vec<u8>; 3]) -> [&mut [u8]; 3] {
+        buffers.each_mut().map(|buffer| {
+            let end = buffer.len() - GUARD;
+            &mut buffer[GUARD..end]
+        })
+    }
+    let right_answer = expected(lent(&mut right));
+    let answer = actual(lent(&mut got));
+    assert_eq!(answer, right_answer, "{}", what());
+    for (i, (got, right)) in got.iter().zip(&right).enumerate() {
+        same_bytes(got, right, &|| format!("{}, buffer {i}", what()));
+    }
+    let lengths = answer?;
+    Ok([0, 1, 2].map(|i| got[i][GUARD..GUARD + lengths[i] as usize].to_vec()))
+}
+
+/// A call that writes three results, each to the front of its buffer, or is refused, in buffers of many lengths: each exact, each
+/// longer, and every choice of them too short, by a byte, by any number and by all.
+pub fn check_writes_three(
+    rng: &mut Rng,
+    what: &dyn Fn() -> String,
+    results: &Result<[Vec<u8>; 3], u64>,
+    call: impl Fn([&mut [u8]; 3]) -> LengthsAnswer,
+) {
+    let mut all_rooms = vec![[0; 3], [68_695; 3]];
+    match results {
+        Err(_) => all_rooms.push([(); 3].map(|()| rng.below(300))),
+        Ok(results) => {
+            let exact = results.each_ref().map(Vec::len);
+            all_rooms.extend([exact, exact.map(|n| n + rng.between(1, 40))]);
+            // each way to be too short; where results are long, by a byte and one other way
+            let other = 1 + rng.below(2);
+            let ways = if exact.iter().sum::<usize>() < 5_000 { vec![0, 1, 2] } else { vec![0, other] };
+            for short in (1..8).map(Faults) {
+                for &way in &ways {
+                    let more = *rng.pick(&[0, 1, 30]);
+                    let short_of = |n: usize, rng: &mut Rng| [n - 1, rng.below(n), 0][way];
+                    all_rooms.push([0, 1, 2].map(|i| if short.has(i) { short_of(exact[i], rng) } else { exact[i] + more }));
+                }
+            }
+        }
+    }
+    for rooms in all_rooms {
+        let expected = |outs: [&mut [u8]; 3]| plain::write_three(results.as_ref().map_err(|refusal| *refusal)?, outs);
+        let _ = same_three(rng, rooms, what, expected, &call);
     }
 }

@@ -11,6 +11,7 @@ mod lent;
 mod prefix;
 mod runs;
 mod sets;
+mod split;
 mod weights;
 
 pub use chance::*;
@@ -22,9 +23,10 @@ pub use lent::*;
 pub use prefix::*;
 pub use runs::*;
 pub use sets::*;
+pub use split::*;
 pub use weights::*;
 
-use crate::plain::{Answer, Key, Laid, RangeAnswer};
+use crate::plain::{Answer, Key, Laid, LengthsAnswer, RangeAnswer};
 
 /// The five questions of document 01. The sixth, of a prefix, has an answer of its own kind.
 #[derive(Clone, Debug)]
@@ -45,6 +47,8 @@ pub trait Subject {
     fn pack(width: u64, batch: &[u8], out: &mut [u8]) -> Answer;
     fn union(a: &[u8], b: &[u8], out: &mut [u8]) -> Answer;
     fn difference(a: &[u8], b: &[u8], out: &mut [u8]) -> Answer;
+    /// In both, only in the first, only in the second.
+    fn split(a: &[u8], b: &[u8], outs: [&mut [u8]; 3]) -> LengthsAnswer;
     /// With width, count and edge bits.
     fn open(l: &[u8]) -> Result<(Self::Opened<'_>, [u64; 3]), u64>;
     /// Checks the encoding first.
@@ -146,6 +150,11 @@ macro_rules! differential_tests {
         }
 
         #[test]
+        fn joins_where_blocks_begin_and_end() {
+            cases::rounds("joins_where_blocks_begin_and_end", 1, cases::block_limits::<$subject>);
+        }
+
+        #[test]
         fn histories() {
             cases::rounds("histories", 120, |rng| check_history::<$subject>(rng, 60));
         }
@@ -218,6 +227,41 @@ macro_rules! differential_tests {
         #[test]
         fn prefix_refusals_in_order() {
             cases::rounds("prefix_refusals_in_order", 4, cases::prefix_refusals::<$subject>);
+        }
+
+        #[test]
+        fn split_examples() {
+            cases::check_split_examples::<$subject>();
+        }
+
+        #[test]
+        fn splits() {
+            cases::rounds("splits", 300, cases::splits::<$subject>);
+        }
+
+        #[test]
+        fn splits_of_every_kind() {
+            cases::rounds("splits_of_every_kind", 4, cases::split_kinds::<$subject>);
+        }
+
+        #[test]
+        fn split_boundaries() {
+            cases::rounds("split_boundaries", 1, cases::split_boundaries::<$subject>);
+        }
+
+        #[test]
+        fn splits_at_the_limit() {
+            cases::rounds("splits_at_the_limit", 1, cases::splits_at_the_limit::<$subject>);
+        }
+
+        #[test]
+        fn split_refusals_in_order() {
+            cases::rounds("split_refusals_in_order", 4, cases::split_refusals::<$subject>);
+        }
+
+        #[test]
+        fn split_laws() {
+            cases::rounds("split_laws", 150, cases::split_laws::<$subject>);
         }
 
         #[test]

@@ -213,20 +213,6 @@ pub fn prefix_boundaries<S: Subject>(rng: &mut Rng) {
 
 // ---- Refusals
 
-type Damage = fn(&mut Vec<u8>);
-
-/// Ways to damage an encoding, each with its refusal.
-const DAMAGES: [(u64, Damage); 8] = [
-    (1, |bytes| bytes.truncate(bytes.len() - 1)),
-    (1, |bytes| bytes.clear()),
-    (2, |bytes| bytes[0] = 9),
-    (3, |bytes| bytes[2] = 3),
-    (4, |bytes| bytes[3..5].fill(0)),
-    (5, |bytes| bytes[15..].fill(0xFF)),
-    (6, |bytes| bytes.push(0)),
-    (7, |bytes| bytes[11] ^= 1),
-];
-
 /// Every choice of faults: the refusal of the first in order. The encoding's own comes before them, whichever it is.
 pub fn prefix_refusals<S: Subject>(rng: &mut Rng) {
     for width in [1, 3, 8, 15, 16, 19, 255, 256] {

@@ -86,26 +86,29 @@ pub fn walks<S: Subject>(rng: &mut Rng) {
 }
 
 pub fn joins<S: Subject>(rng: &mut Rng) {
-    let width = random_width(rng);
-    let most = if rng.one_in(10) { 40_000 / width + 1 } else { 60 };
-    let [a, mut b] = operands(rng, width, most);
-    if rng.one_in(12) {
-        let other = random_width(rng);
-        b = random_set(rng, other, 20);
-    }
+    let [a, b] = any_operands(rng, 10);
     check_join::<S>(rng, &a.lay(), &b.lay());
 }
 
 /// Operands of just so many edge bits or bytes that a join begins to use tables or larger rooms.
 pub fn join_limits<S: Subject>(rng: &mut Rng) {
     for width in [9, 33, 100] {
-        for bits in [8 * width + 256, 16 * width + 256] {
+        // of a split, of a difference, of a union
+        for bits in [8 * width + 64, 8 * width + 256, 16 * width + 256] {
             for records in bits / 2 - 2..=bits / 2 + 2 {
                 let first = rng.between(width, records - width);
                 let [a, b] = [first, records - first].map(|records| set_with_records(rng, width, records).lay());
                 assert_eq!(a.bits() + b.bits(), 2 * records);
                 check_join::<S>(rng, &a, &b);
                 check_join_weighted::<S>(rng, &a, &b);
+                check_split::<S>(rng, &a, &b);
+            }
+            // a set twice
+            for records in bits / 4 - 1..=bits / 4 + 1 {
+                let laid = set_with_records(rng, width, records).lay();
+                assert_eq!(2 * laid.bits(), 4 * records);
+                check_join::<S>(rng, &laid, &laid);
+                check_split::<S>(rng, &laid, &laid);
             }
         }
     }
@@ -121,6 +124,85 @@ pub fn join_limits<S: Subject>(rng: &mut Rng) {
         check_join_weighted::<S>(rng, &below, &below);
         check_join_weighted::<S>(rng, &below, &above);
         check_join_weighted::<S>(rng, &above, &below);
+        check_split::<S>(rng, &below, &below);
+        check_split::<S>(rng, &below, &above);
+        check_split::<S>(rng, &above, &above);
+        for whole in [&below, &above] {
+            let part = random_part(rng, &whole.set, 2).lay();
+            check_split::<S>(rng, whole, &part);
+        }
+    }
+}
+
+/// So many keys that share their first bits and are then numbered: behind that each level has a record for each, of one edge.
+fn numbered(rng: &mut Rng, width: usize, shared: usize, n: usize) -> Set {
+    let (first, digits) = (random_key(rng, width), n.next_power_of_two().ilog2() as usize);
+    let keys = (0..n).map(|number| {
+        let mut key = random_tail(rng, &first, width, shared);
+        for d in 0..digits {
+            if plain::bit(&key, shared + d) != (number >> (digits - 1 - d) & 1 == 1) {
+                flip(&mut key, shared + d);
+            }
+        }
+        key
+    });
+    Set::new(width, keys)
+}
+
+/// A few keys more: each gives a second edge to a record at this place of a block of sixteen.
+fn branched(rng: &mut Rng, set: &Set, place: usize) -> Set {
+    let (mut set, mut from) = (set.clone(), 0);
+    for _ in 0..rng.between(1, 3) {
+        let laid = set.clone().lay();
+        let single = |i: &usize| i % 16 == place && laid.edges[2 * i] != laid.edges[2 * i + 1];
+        let singles: Vec<usize> = (from..laid.bits() / 2).filter(single).collect();
+        if singles.is_empty() {
+            break;
+        }
+        let i = *rng.pick(&singles);
+        let d = laid.ends.iter().position(|end| 2 * i < *end).unwrap();
+        let start = if d == 0 { 0 } else { laid.ends[d - 1] / 2 };
+        let (prefix, edges) = set.level(d).into_iter().nth(i - start).unwrap();
+        let mut key = random_tail(rng, &prefix, set.width, d);
+        if plain::bit(&key, d) == edges[1] {
+            flip(&mut key, d);
+        }
+        set.keys.insert(key);
+        // the records so far keep their places
+        from = i + 1;
+    }
+    set
+}
+
+/// Each key in the first of two sets, in the second or in both.
+fn parted(rng: &mut Rng, set: &Set) -> [Laid; 2] {
+    let mut sets = [(); 2].map(|()| Set::new(set.width, []));
+    for key in &set.keys {
+        let (one, only) = (rng.below(2), !rng.one_in(3));
+        sets[one].keys.insert(key.clone());
+        if !only {
+            sets[1 - one].keys.insert(key.clone());
+        }
+    }
+    sets.map(Set::lay)
+}
+
+/// Long runs of records of one edge, and a few of two at each place of a block of sixteen: levels of about one, two and three
+/// blocks, which end inside blocks, between them and beside.
+pub fn block_limits<S: Subject>(rng: &mut Rng) {
+    for width in [9, 32, 255, 256] {
+        for n in [15, 16, 17, 31, 32, 33, 47, 48, 49] {
+            for place in 0..16 {
+                let shared = rng.below((width - 7).min(16));
+                let set = numbered(rng, width, shared, n);
+                for set in [branched(rng, &set, place), set] {
+                    let [a, b] = parted(rng, &set);
+                    check_join::<S>(rng, &a, &b);
+                    check_split::<S>(rng, &a, &b);
+                    check_difference_list::<S>(rng, &a, &b);
+                }
+            }
+        }
     }
 }
 

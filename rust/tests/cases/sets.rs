@@ -150,6 +150,16 @@ pub fn operands(rng: &mut Rng, width: usize, most: usize) -> [Set; 2] {
     [a, b]
 }
 
+/// Such operands of a random width, in one pair of `long` long ones; in one pair of twelve the second has a width of its own.
+pub fn any_operands(rng: &mut Rng, long: usize) -> [Set; 2] {
+    let width = random_width(rng);
+    let most = if rng.one_in(long) { 40_000 / width + 1 } else { 60 };
+    let [a, b] = operands(rng, width, most);
+    let other = random_width(rng);
+    let b = if rng.one_in(12) { random_set(rng, other, 20) } else { b };
+    [a, b]
+}
+
 /// A random part of a set: one key in so many.
 pub fn random_part(rng: &mut Rng, set: &Set, many: usize) -> Set {
     Set::new(set.width, set.keys.iter().filter(|_| rng.one_in(many)).cloned())

@@ -162,6 +162,21 @@ fn check_difference_weighted<S: Subject>(rng: &mut Rng, a: &Operand, b: &Operand
     assert!((&x.bytes, &x.list, &y) == (&a.bytes, &a.list, &b.bytes), "a difference changed an operand");
 }
 
+/// A difference with a right list, in outputs of just its lengths.
+pub fn check_difference_list<S: Subject>(rng: &mut Rng, a: &Laid, b: &Laid) {
+    let (a, y) = (Operand::new(a, list(rng, a.count())), b.encode());
+    let right = plain::difference_weighted(a.laid, &a.list, b).unwrap();
+    let rooms = [right.laid.encode().len(), right.laid.count()];
+    let what = || format!("difference of {} and {}", a.shown(), shown(&y));
+    same_outputs(
+        rng,
+        rooms,
+        &what,
+        |out, list| right.write(out, list),
+        |out, list| S::difference_weighted(&a.bytes, &a.list, &y, out, list),
+    );
+}
+
 /// Both joins with right lists, then with each list too short and too long.
 pub fn check_join_weighted<S: Subject>(rng: &mut Rng, a: &Laid, b: &Laid) {
     let (v, w) = (list(rng, a.count()), list(rng, b.count()));

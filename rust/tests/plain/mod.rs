@@ -1,4 +1,5 @@
-//! The reference: document 01, with document 02's slip 2, read sentence by sentence, with plain sets of keys and nothing clever.
+//! The reference: document 01, with document 02's slips 2 and 3, read sentence by sentence, with plain sets of keys and nothing
+//! clever.
 //!
 //! A set is a `BTreeSet` of keys. Its levels are found by taking every key's prefixes; its bytes are put down field by field.
 //! Bytes are read by following their edges to a set and encoding that set again. A cursor is a place in the list of paths.
@@ -16,6 +17,8 @@ use std::collections::{BTreeMap, BTreeSet};
 pub type Key = Vec<u8>;
 pub type Answer = Result<Option<u64>, u64>;
 pub type RangeAnswer = Result<PrefixRange, u64>;
+/// The lengths of a split: of the keys in both, only in the first, only in the second.
+pub type LengthsAnswer = Result<[u64; 3], u64>;
 
 pub const MAX_WIDTH: usize = 256;
 pub const MAX_EDGES: usize = 524_280;
@@ -309,6 +312,37 @@ pub fn union(a: &Set, b: &Set) -> Result<Set, u64> {
 pub fn difference(a: &Set, b: &Set) -> Result<Set, u64> {
     unless(a.width != b.width, 13)?;
     Ok(Set { width: a.width, keys: a.keys.difference(&b.keys).cloned().collect() })
+}
+
+/// 13; then each key of either set goes to one of three: in both, only in the first, only in the second.
+pub fn split(a: &Set, b: &Set) -> Result<[Set; 3], u64> {
+    unless(a.width != b.width, 13)?;
+    let mut parts = [(); 3].map(|()| Set::new(a.width, []));
+    for key in a.keys.iter().chain(&b.keys) {
+        let part = match (a.keys.contains(key), b.keys.contains(key)) {
+            (true, true) => 0,
+            (true, false) => 1,
+            _ => 2,
+        };
+        parts[part].keys.insert(key.clone());
+    }
+    Ok(parts)
+}
+
+/// 5 for any of the three.
+pub fn split_laid(a: &Set, b: &Set) -> Result<[Laid; 3], u64> {
+    let parts = split(a, b)?.map(Set::lay);
+    unless(parts.iter().any(|laid| laid.bits() > MAX_EDGES), 5)?;
+    Ok(parts)
+}
+
+/// 14 for any of the three; then each stands at the front of its own buffer.
+pub fn write_three(results: &[Vec<u8>; 3], outs: [&mut [u8]; 3]) -> LengthsAnswer {
+    unless(results.iter().zip(&outs).any(|(result, out)| out.len() < result.len()), 14)?;
+    for (result, out) in results.iter().zip(outs) {
+        out[..result.len()].copy_from_slice(result);
+    }
+    Ok(results.each_ref().map(|result| result.len() as u64))
 }
 
 // ---- Reading

@@ -7,10 +7,10 @@ add-if1 : tie.Need-add-if1
 add-if1 c = search needs
 
 mul-if1 : tie.Need-mul-if1
-mul-if1 c = record { fits = omega (arith, c .before .before .before .before .pre .0 .0 .narrow) }
+mul-if1 c = search needs
 
 add-if1-2 : tie.Need-add-if1-2
-add-if1-2 c = record { fits = omega (arith, c .before .before .before .before .pre .0 .0 .narrow) }
+add-if1-2 c = search needs
 
 slice-aggregate-subtract : tie.Need-slice-aggregate-subtract
 slice-aggregate-subtract c = search needs
@@ -21,10 +21,13 @@ slice-aggregate-subtract-2 c = search needs
 slice-aggregate-subtract-3 : tie.Need-slice-aggregate-subtract-3
 slice-aggregate-subtract-3 c = search needs
 
+slice-aggregate-subtract-4 : tie.Need-slice-aggregate-subtract-4
+slice-aggregate-subtract-4 c = search needs
+
 subtract-requires : tie.Need-subtract-requires
 subtract-requires c κs =
-    let s = c .before .before .before .before .before .before .before .before .before .before in
-    (s .pre .0, (s .pre .1 .0, (λ h. absurd (omega arith), s .pre .1 .1)))
+    let s = c .before .before .before .before .before .before .before .before .before .before .before in
+    (s .pre .0, (s .pre .1 .0, (λ h. absurd (omega arith), (λ h. absurd (omega arith), s .pre .1 .1))))
 
 same-length : tie.Need-same-length
 same-length c = search needs
@@ -47,8 +50,11 @@ slice-aggregate-fill-3 c = search needs
 fill-requires : tie.Need-fill-requires
 fill-requires c κs = search needs
 
-slice-aggregate-subtract-4 : tie.Need-slice-aggregate-subtract-4
-slice-aggregate-subtract-4 c = search needs
+slice-aggregate-fill-edged : tie.Need-slice-aggregate-fill-edged
+slice-aggregate-fill-edged c = search needs
+
+fill-edged-requires : tie.Need-fill-edged-requires
+fill-edged-requires c κs = search needs
 
 slice-aggregate-subtract-5 : tie.Need-slice-aggregate-subtract-5
 slice-aggregate-subtract-5 c = search needs
@@ -56,11 +62,18 @@ slice-aggregate-subtract-5 c = search needs
 slice-aggregate-subtract-6 : tie.Need-slice-aggregate-subtract-6
 slice-aggregate-subtract-6 c = search needs
 
+slice-aggregate-subtract-7 : tie.Need-slice-aggregate-subtract-7
+slice-aggregate-subtract-7 c = search needs
+
+slice-aggregate-subtract-8 : tie.Need-slice-aggregate-subtract-8
+slice-aggregate-subtract-8 c = search needs
+
 subtract-requires-2 : tie.Need-subtract-requires-2
 subtract-requires-2 c κs =
-    let f = c .before .before .before .before .before .before .before .before in
-    let s = c .before .before .before .before .before .before .before .before .before .before .before .before .before .before .before .before .before in
-    (s .pre .0, (s .pre .1 .0, (λ h. f .fill .ensures, s .pre .1 .1)))
+    let d = c .before .before .before .before .before .before .before in
+    let f = d .before .before .before .before .before in
+    let s = f .before .before .before .before .before .before .before .before .before in
+    (s .pre .0, (s .pre .1 .0, (λ h. f .fill .ensures, (λ h. d .fill-edged .ensures, s .pre .1 .1))))
 
 same-length-3 : tie.Need-same-length-3
 same-length-3 c = search needs
@@ -81,6 +94,7 @@ subtracted-spec =
     slice-aggregate-subtract
     slice-aggregate-subtract-2
     slice-aggregate-subtract-3
+    slice-aggregate-subtract-4
     subtract-requires
     same-length
     same-length-2
@@ -89,9 +103,12 @@ subtracted-spec =
     slice-aggregate-fill-2
     slice-aggregate-fill-3
     fill-requires
-    slice-aggregate-subtract-4
+    slice-aggregate-fill-edged
+    fill-edged-requires
     slice-aggregate-subtract-5
     slice-aggregate-subtract-6
+    slice-aggregate-subtract-7
+    slice-aggregate-subtract-8
     subtract-requires-2
     same-length-3
     same-length-4

@@ -5,12 +5,14 @@ use native.Mathlib.Omega.{arith}
 use denote.Ref.{now}
 use lib.ListN.{length, getD, length-set}
 use lib.Bits.{bitAnd}
-use Rattle.join_tables.proofs.PartTable.{Parting, part-start, part-fits, part-turn}
+use Rattle.join_tables.specs.Entries.{partCode}
+use Rattle.join_tables.proofs.Filling.{Fours}
+use Rattle.join_tables.proofs.PartTable.{part-start, part-fits, part-turn}
 use Rattle.join_tables.proofs.first_parts.Statement.{statement}
 use Rattle.join_tables.proofs.first_parts.Tie as tie
 
 abbrev Inv-loop : tie.InvT-loop
-Inv-loop t₀ i₀ t i = (length t ≡ 256) × (i ≤ 4) × Parting i t
+Inv-loop t₀ i₀ t i = (length t ≡ 256) × (i ≤ 4) × Fours partCode i t
 
 abbrev μ-loop : tie.MeasureT-loop
 μ-loop t₀ i₀ t i = 4 - i

@@ -10,19 +10,19 @@ use Rattle.restrict.proofs.compact.Statement.{statement}
 use Rattle.restrict.proofs.compact.Tie as tie
 
 abbrev Inv-loop : tie.InvT-loop
-Inv-loop q spreads parts runs out₀ end i₀ k₀ out i k = Compacted q i out₀ out (k .0) × (i ≤ end)
+Inv-loop q edged out₀ end i₀ k₀ out i k = Compacted q i out₀ out (k .0) × (i ≤ end)
 
 abbrev μ-loop : tie.MeasureT-loop
-μ-loop q spreads parts runs out₀ end i₀ k₀ out i k = end - i
+μ-loop q edged out₀ end i₀ k₀ out i k = end - i
 
 abbrev start : tie.At-loop Inv-loop μ-loop → tie.Start Inv-loop μ-loop
-start l = l .before .before .before .before .before .before
+start l = l .before .before .before .before
 
 abbrev blockOf : tie.Then1 Inv-loop μ-loop → tie.At-loop Inv-loop μ-loop
 blockOf d = d .before .before .before
 
 room : (d : tie.Then1 Inv-loop μ-loop)
-    → (0 < length (now (start (blockOf d) .args .spreads))) × (blockOf d .loop .i % 4 ≡ 0) × (16 ≤ start (blockOf d) .args .r .0 - blockOf d .loop .i) × (blockOf d .loop .k .0 / 4 + 7 < length (blockOf d .loop .out))
+    → (0 < length (now (start (blockOf d) .args .edged))) × (blockOf d .loop .i % 4 ≡ 0) × (16 ≤ start (blockOf d) .args .r .0 - blockOf d .loop .i) × (blockOf d .loop .k .0 / 4 + 7 < length (blockOf d .loop .out))
 room d = d .before .has-run .ensures (d .if1 .taken)
 
 loop-holds : tie.Need-loop-holds Inv-loop μ-loop
@@ -39,13 +39,11 @@ compact-block-requires c κs =
     let d = c .before in
     let l = blockOf d in
     let s = start l in
-    let r = room d in
-    let t = s .pre .1 (r .0) in (
+    let r = room d in (
       omega (arith, r .1, r .2, s .pre .0 .0),
       r .3,
       omega (arith, compact-less (l .loop .inv .0), s .pre .0 .1, l .loop .inv .1),
-      t .1,
-      t .2,
+      s .pre .1 (r .0),
     )
 
 add-i : tie.Need-add-i Inv-loop μ-loop

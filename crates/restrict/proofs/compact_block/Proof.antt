@@ -45,8 +45,8 @@ run-and-requires c κs = search needs
 append-requires : tie.Need-append-requires
 append-requires c κs = search needs
 
-add-t13 : tie.Need-add-t13
-add-t13 c = search needs
+add-t12 : tie.Need-add-t12
+add-t12 c = search needs
 
 same-length : tie.Need-same-length
 same-length c = search needs
@@ -57,7 +57,7 @@ returns c =
     let u = g .before .before .before in
     let b = u .before in
     let a = b .before .before .before in
-    let s = a .before .before .before .before .before .before .before in
+    let s = a .before .before .before .before .before .before in
     let q = now (s .args .q) in
     let j = s .args .j in
     let e =
@@ -82,6 +82,6 @@ compact-block-spec =
     bytes-run-requires-2
     run-and-requires
     append-requires
-    add-t13
+    add-t12
     same-length
     returns)

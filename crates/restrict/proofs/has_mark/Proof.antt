@@ -18,23 +18,16 @@ returns-3 c = λ e. absurd (false≢true e)
 returns-4 : tie.Need-returns-4
 returns-4 c = λ e. absurd (false≢true e)
 
-returns-5 : tie.Need-returns-5
-returns-5 c = λ e. absurd (false≢true e)
-
-returns-6 : tie.Need-returns-6
-returns-6 c = λ e. absurd (false≢true e)
-
 add-result : tie.Need-add-result
 add-result c = search needs
 
-returns-7 : tie.Need-returns-7
-returns-7 c =
+returns-5 : tie.Need-returns-5
+returns-5 c =
     λ e. record {
-      flag = (omega arith, omega arith);
       whole = omega arith;
       less = omega arith;
       behind = omega arith;
-      same = λ h. ⊎-elim (λ p. omega (arith, p .3 .left)) (λ p. absurd (omega (arith, p .left))) (c .if6 .came);
+      same = λ h. ⊎-elim (λ p. omega (arith, p .3 .left)) (λ p. absurd (omega (arith, p .left))) (c .if4 .came);
       queue = ltb-true _ _ e;
     }
 
@@ -46,7 +39,5 @@ has-mark-spec =
     returns-2
     returns-3
     returns-4
-    returns-5
-    returns-6
     add-result
-    returns-7)
+    returns-5)

@@ -6,7 +6,7 @@ use Rattle.restrict.proofs.mark.Tie as tie
 mark-bytes-requires : tie.Need-mark-bytes-requires
 mark-bytes-requires c κs =
     let s = c .before .before .before .before .before in
-    (s .pre .0, s .pre .1 (omega (arith, c .before .if1 .taken)))
+    (s .pre .0, (s .pre .1 .0 (omega (arith, c .before .if1 .taken)), s .pre .1 .1))
 
 mark-singly-requires : tie.Need-mark-singly-requires
 mark-singly-requires c κs = search needs

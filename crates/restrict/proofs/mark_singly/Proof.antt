@@ -2,7 +2,7 @@ use Prim.Native.Nat.{suc, _+_, _-_, _/_, _%_}
 use mathlib.Core.Path.{_≡_, refl, ap, _∙_}
 use denote.Ref.{now}
 use Rattle.records.specs.Records.{recordOfCode, recordAt}
-use Rattle.restrict.proofs.Marking.{Marking, Kept, mark-none, down, inside, mark-more, mark-done, kept-read, kept-on}
+use Rattle.restrict.proofs.Marking.{Marking, Kept, mark-none, down, inside, marked-ok, mark-more, mark-done, kept-read, kept-on}
 use borrow.Author.Needs.{needs}
 use native.Mathlib.Omega.{arith}
 use Rattle.restrict.proofs.mark_singly.Statement.{statement}
@@ -31,16 +31,16 @@ at t =
 read : (t : tie.After-record-in Inv-loop μ-loop) → recordOfCode (t .record-in .result) ≡ recordAt (now (start (loopOf t) .args .q)) (loopOf t .loop .i - 1)
 read t = ap recordOfCode (t .record-in .ensures .0) ∙ loopOf t .loop .inv .1 .same (loopOf t .loop .i - 1) (omega (arith, t .before .loop-test .taken)) refl
 
-abbrev recordOf : tie.After-mark-record Inv-loop μ-loop → tie.After-record-in Inv-loop μ-loop
-recordOf m = m .before .before
+abbrev recordOf : tie.After-put-record Inv-loop μ-loop → tie.After-record-in Inv-loop μ-loop
+recordOf m = m .before .before .before .before
 
 -- one record more is done
-marked : (m : tie.After-mark-record Inv-loop μ-loop)
+marked : (m : tie.After-put-record Inv-loop μ-loop)
     → Marking (start (loopOf (recordOf m)) .args .w) (now (start (loopOf (recordOf m)) .args .q)) (start (loopOf (recordOf m)) .args .r .0) (start (loopOf (recordOf m)) .args .n)
-    (loopOf (recordOf m) .loop .i - 1) (loopOf (recordOf m) .loop .c - (recordOf m .record-in .result / 2 + recordOf m .record-in .result % 2)) (m .mark-record .last .0)
+    (loopOf (recordOf m) .loop .i - 1) (loopOf (recordOf m) .loop .c - (recordOf m .record-in .result / 2 + recordOf m .record-in .result % 2)) (m .put-record .last .0)
 marked m =
     let t = recordOf m in
-    mark-more (start (loopOf t) .pre .2) (at t) (t .record-in .ensures .1) (read t) (m .mark-record .ensures)
+    mark-more (start (loopOf t) .pre .2) (at t) (t .record-in .ensures .1) (read t) (marked-ok (m .before .before .kept-record .ensures .0) (m .put-record .ensures))
 
 add-c : tie.Need-add-c Inv-loop μ-loop
 add-c c = record { fits = omega (arith, c .before .before .pre) }
@@ -68,8 +68,8 @@ cast-d c = search needs
 sub-d : tie.Need-sub-d Inv-loop μ-loop
 sub-d c = down (start (loopOf c) .pre .2) (at c) (c .record-in .ensures .1) (read c) .0
 
-mark-record-requires : tie.Need-mark-record-requires Inv-loop μ-loop
-mark-record-requires c κs =
+kept-record-requires : tie.Need-kept-record-requires Inv-loop μ-loop
+kept-record-requires c κs =
     let t = c .before in
     let l = loopOf t in
     let s = start l in
@@ -77,7 +77,13 @@ mark-record-requires c κs =
     let d = down (s .pre .2) (at t) x (read t) .0 in
     let k = inside (s .pre .2) (at t) x (read t) .1 in
     let z = l .loop .inv .0 .size in
-    (omega (arith, d, k, z, s .pre), x, omega (arith, at t .low, z, s .pre), omega (arith, z, s .pre))
+    (omega (arith, d, k, z, s .pre), x, omega (arith, z, s .pre), omega (arith, z, s .pre))
+
+put-record-requires : tie.Need-put-record-requires Inv-loop μ-loop
+put-record-requires c κs =
+    let t = c .before .before .before in
+    let l = loopOf t in
+    (omega (arith, at t .low, l .loop .inv .0 .size, start l .pre), c .before .kept-record .ensures .1)
 
 byte-before-requires-2 : tie.Need-byte-before-requires-2 Inv-loop μ-loop
 byte-before-requires-2 c κs =
@@ -85,7 +91,7 @@ byte-before-requires-2 c κs =
     λ h. omega (arith, marked m .low, marked m .size, start (loopOf (recordOf m)) .pre)
 
 loop-less : tie.Need-loop-less Inv-loop μ-loop
-loop-less c = omega (arith, c .before .before .before .before .before .before .before .before .loop-test .taken)
+loop-less c = omega (arith, c .before .before .before .before .before .before .before .before .before .before .loop-test .taken)
 
 loop-again : tie.Need-loop-again Inv-loop μ-loop
 loop-again c =
@@ -93,7 +99,7 @@ loop-again c =
     (v, kept-read v (c .byte-before2 .ensures))
 
 loop-less-2 : tie.Need-loop-less-2 Inv-loop μ-loop
-loop-less-2 c = omega (arith, c .before .before .before .before .before .before .loop-test .taken)
+loop-less-2 c = omega (arith, c .before .before .before .before .before .before .before .before .loop-test .taken)
 
 loop-again-2 : tie.Need-loop-again-2 Inv-loop μ-loop
 loop-again-2 c =
@@ -123,7 +129,8 @@ mark-singly-spec =
     add-d
     cast-d
     sub-d
-    mark-record-requires
+    kept-record-requires
+    put-record-requires
     byte-before-requires-2
     loop-less
     loop-again

@@ -109,7 +109,7 @@ returns-2 c =
     sym (writes-short (last s) (held s) (sums s) (xs s) (ws s) (few e) (told e ∙ c .if2 .taken))
 
 any-outside-requires : tie.Need-any-outside-requires
-any-outside-requires c κs = let s = start (c .before .before) in record { fits = s .pre .0 .flags; small = s .pre .0 .small }
+any-outside-requires c κs = start (c .before .before) .pre .0 .flags
 
 same-length : tie.Need-same-length
 same-length c = search needs
@@ -130,12 +130,12 @@ write-sums-requires c κs =
     let v = c .before .before .before in
     let long = length-take-le (n (s v)) (ws (s v)) (list-room v) in
     subst (λ j. FlagsFit (q (s v)) (k (s v) / 2) j × (anyBelow (overAt (q (s v)) (k (s v) / 2) (now (s v .args .wa)) (now (s v .args .wb))) j ≡ false)) (sym long)
-    (record { fits = s v .pre .0 .flags; small = s v .pre .0 .small }, sym (v .any-outside .ensures) ∙ c .before .before .if3 .left)
+    (s v .pre .0 .flags, sym (v .any-outside .ensures) ∙ c .before .before .if3 .left)
 
 seal-requires : tie.Need-seal-requires
 seal-requires c κs =
     let v = c .before .before .before .before .before .before in
-    (omega (arith, s v .pre .0 .flags), omega (arith, sized v .before .if1 .left))
+    (omega (arith, s v .pre .0 .flags .fits), omega (arith, sized v .before .if1 .left))
 
 put-encoding-requires : tie.Need-put-encoding-requires
 put-encoding-requires c κs =

@@ -4,9 +4,9 @@ use denote.Ref.{now}
 use lib.Seq.{length-take-le}
 use Rattle.loes.specs.Bytes.{front}
 use Rattle.loes.specs.Encode.{encode}
 use Rattle.join.proofs.Joins.{cut-fits, cut-held, cut-sealed}
-use Rattle.weights.proofs.put_encoding.Statement.{statement}
-use Rattle.weights.proofs.put_encoding.Tie as tie
+use Rattle.join.proofs.put_encoding.Statement.{statement}
+use Rattle.join.proofs.put_encoding.Tie as tie
 
 abbrev start : tie.After-bytes-for → tie.Start
 start b = b .before .before .before .before

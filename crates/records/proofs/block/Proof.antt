@@ -1,0 +1,92 @@
+use denote.Ref.{now}
+use native.Mathlib.Omega.{arith}
+use Rattle.records.proofs.Numbers.{sixteen}
+use borrow.Author.Needs.{needs}
+use Rattle.records.proofs.block.Statement.{statement}
+use Rattle.records.proofs.block.Tie as tie
+
+shared-slice-read-wide : tie.Need-shared-slice-read-wide
+shared-slice-read-wide c = search needs
+
+wide-requires : tie.Need-wide-requires
+wide-requires c κs = search needs
+
+mul-result : tie.Need-mul-result
+mul-result c = search needs
+
+add-wide : tie.Need-add-wide
+add-wide c = search needs
+
+shared-slice-read-wide-2 : tie.Need-shared-slice-read-wide-2
+shared-slice-read-wide-2 c = search needs
+
+wide-requires-2 : tie.Need-wide-requires-2
+wide-requires-2 c κs = search needs
+
+mul-result-2 : tie.Need-mul-result-2
+mul-result-2 c = search needs
+
+add-result : tie.Need-add-result
+add-result c = search needs
+
+add-wide-2 : tie.Need-add-wide-2
+add-wide-2 c = search needs
+
+shared-slice-read-wide-3 : tie.Need-shared-slice-read-wide-3
+shared-slice-read-wide-3 c = search needs
+
+wide-requires-3 : tie.Need-wide-requires-3
+wide-requires-3 c κs = search needs
+
+mul-result-3 : tie.Need-mul-result-3
+mul-result-3 c = search needs
+
+add-result-2 : tie.Need-add-result-2
+add-result-2 c = search needs
+
+add-wide-3 : tie.Need-add-wide-3
+add-wide-3 c = search needs
+
+shared-slice-read-wide-4 : tie.Need-shared-slice-read-wide-4
+shared-slice-read-wide-4 c = search needs
+
+wide-requires-4 : tie.Need-wide-requires-4
+wide-requires-4 c κs = search needs
+
+add-result-3 : tie.Need-add-result-3
+add-result-3 c = search needs
+
+returns : tie.Need-returns
+returns c =
+    let w3 = c .before .before in
+    let w2 = w3 .before .before in
+    let w1 = w2 .before .before in
+    let s = w1 .before .before .before in
+    let a = w1 .wide .ensures in
+    let b = w2 .wide2 .ensures in
+    let d = w3 .wide3 .ensures in
+    let e = c .wide4 .ensures in
+    (sixteen (now (s .args .l)) (s .args .j) (w1 .wide .result) (w2 .wide2 .result) (w3 .wide3 .result) (c .wide4 .result) (a .0) (b .0) (d .0) (e .0) (b .1) (d .1) (e .1), omega (arith, a, b, d, e))
+
+pub block-spec : {M : Type 1} → statement M
+block-spec =
+    tie.close
+    (tie.spec
+    shared-slice-read-wide
+    wide-requires
+    mul-result
+    add-wide
+    shared-slice-read-wide-2
+    wide-requires-2
+    mul-result-2
+    add-result
+    add-wide-2
+    shared-slice-read-wide-3
+    wide-requires-3
+    mul-result-3
+    add-result-2
+    add-wide-3
+    shared-slice-read-wide-4
+    wide-requires-4
+    add-result-3
+    returns)
