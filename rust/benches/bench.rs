@@ -311,7 +311,8 @@ fn table<const T: usize>(keys: Vec<[u8; T]>, shape: &'static str) -> Table {
     let mut rng = Rng(7);
     let asked: Vec<[u8; T]> = (0..1_000).map(|i| if i % 2 == 0 { keys[rng.next() as usize % n] } else { rng.key() }).collect();
     let indices: Vec<u64> = (0..1_000).map(|_| rng.next() % n as u64).collect();
-    let offsets: Vec<u64> = (0..1_000).map(|_| rng.next() % opened.bits as u64).collect();
+    // so many that a rank's branches are not learned by heart
+    let offsets: Vec<u64> = (0..40_000).map(|_| rng.next() % opened.bits as u64).collect();
     #[cfg(feature = "linked")]
     let (mut room, mut buffer) = (out.clone(), [0u8; T]);
     let mut key = [0u8; T];
@@ -419,9 +420,10 @@ fn table<const T: usize>(keys: Vec<[u8; T]>, shape: &'static str) -> Table {
     );
     row(
         "rank",
-        compare!(q, || each(&offsets, |offset| encoding.rank(loes::EdgeOffset(*offset))), || each(&offsets, |offset| {
-            plain_rust::rank(&bytes, &opened, *offset)
-        })),
+        compare!(offsets.len(), || each(&offsets, |offset| encoding.rank(loes::EdgeOffset(*offset))), || each(
+            &offsets,
+            |offset| plain_rust::rank(&bytes, &opened, *offset)
+        )),
         [None; 3],
     );
     for (name, times, prefixes) in

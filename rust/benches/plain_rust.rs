@@ -247,16 +247,36 @@ fn check(e: &Opened, f: &Fields) -> bool {
 
 // ---- Rank and the descent
 
+/// The counting behind every rank of an opened encoding, of which it sees an entry of field 5, one of field 6 and at most 64 bytes
+/// of field 4: it counts the set ones among their first n bits, of which there is at least one.
+#[inline(always)]
+fn count_sub_block(block: usize, sub_block: usize, edges: &[u8], n: usize) -> usize {
+    let last = (n - 1) / 8;
+    let start = block + sub_block + ones_of_first(edges[last], (n - 1) % 8 + 1);
+    // few bytes are counted one by one
+    if last < 8 {
+        return start + tally(&edges[..last]);
+    }
+    // more by words: first those behind the last whole word, of the word that they end
+    let behind = last % 8;
+    let rest = word(edges, last - 8) >> (8 * (7 - behind)) >> 8;
+    let mut sum = start + rest.count_ones() as usize;
+    for x in edges[..last - behind].as_chunks().0 {
+        sum += u64::from_le_bytes(*x).count_ones() as usize;
+    }
+    sum
+}
+
 /// The set bits before offset o, 0 to b.
 #[inline(always)]
 fn ones_before(f: &Fields, o: usize) -> usize {
     if o == 0 {
         return 0;
     }
-    let o = o - 1;
-    let base = number8(&f.blocks[o / BLOCK_BITS]) + number2(&f.sub_blocks[o / SUB_BLOCK_BITS]);
-    let whole = tally(&f.edges[o / SUB_BLOCK_BITS * 64..o / 8]);
-    base + whole + ones_of_first(f.edges[o / 8], o % 8 + 1)
+    let last = o - 1;
+    let sub = last / SUB_BLOCK_BITS;
+    let (block, sub_block) = (number8(&f.blocks[last / BLOCK_BITS]), number2(&f.sub_blocks[sub]));
+    count_sub_block(block, sub_block, &f.edges[64 * sub..=last / 8], last % SUB_BLOCK_BITS + 1)
 }
 
 /// The same if `ones` are set before `from`, which is not behind it: where it is near, the edges between are counted.

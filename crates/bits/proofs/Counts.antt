@@ -46,6 +46,10 @@ bits-more l i n = tabulate-add (bitAt l) (8 * i) n ∙ ap (λ x. tabulate (bitAt
 pub ones-more : (l : Bytes) (i n : ℕ) → ones (bitsIn l (8 * i + n)) ≡ ones (bitsIn l (8 * i)) + ones (bitsIn (drop i l) n)
 ones-more l i n = ap ones (bits-more l i n) ∙ ones-append (bitsIn l (8 * i)) (bitsIn (drop i l) n)
 
+-- up to an offset that is k bits behind byte i's front
+pub ones-at : (l : Bytes) (i k o : ℕ) → 8 * i + k ≡ o → ones (bitsIn l o) ≡ ones (bitsIn l (8 * i)) + ones (bitsIn (drop i l) k)
+ones-at l i k o z = ap (λ n. ones (bitsIn l n)) (sym z) ∙ ones-more l i k
+
 -- the first k bits of byte i
 pub byte-bits : (l : Bytes) (i k : ℕ) → k ≤ 8 → bitsIn (drop i l) k ≡ tabulate (λ (j : ℕ). odd (getD l i 0 / 2 ^ (7 - j))) k
 byte-bits l i k h =

@@ -42,22 +42,21 @@ number-snoc l at n h =
     rw (take-suc (drop at l) n 0 (omega (arith, length-drop at l)), value-snoc (take n (drop at l)) (getD (drop at l) n 0) 0, getD-drop at l n 0) (omega arith)
 
 -- the first n bytes of eight, in the upper bits: one more, as the code puts it behind them
-pub number-next : (l : Bytes) (at n : ℕ) {r : ℕ} → n < 8 → at + n < length l → getD l (at + n) 0 < 256 → r ≡ numberAt n l at * 2 ^ (64 - 8 * n)
-    → bitOr r (getD l (at + n) 0 * 2 ^ (56 - 8 * n) % 2 ^ 64) ≡ numberAt (suc n) l at * 2 ^ (64 - 8 * suc n)
-number-next l at n h q s e =
+pub number-next : (l : Bytes) (at n : ℕ) {r w : ℕ} → n < 8 → at + n < length l → getD l (at + n) 0 < 256 → w ≡ getD l (at + n) 0 → r ≡ numberAt n l at * 2 ^ (64 - 8 * n)
+    → bitOr r (w * 2 ^ (56 - 8 * n) % 2 ^ 64) ≡ numberAt (suc n) l at * 2 ^ (64 - 8 * suc n)
+number-next l at n h q s b e =
     let x : ℕ = getD l (at + n) 0 in
     let v : ℕ = numberAt n l at in
     let k : ℕ = 56 - 8 * n in
     let z : 64 - 8 * n ≡ 8 + k = omega arith in
     let y : k ≡ 64 - 8 * suc n = omega arith in
     let p : v * 2 ^ (8 + k) ≡ v * 256 * 2 ^ k = ap (λ m. v * m) (pow-add 2 8 k) ∙ sym (mul-assoc v 256 (2 ^ k)) in
-    ap₂ bitOr (e ∙ ap (λ m. v * 2 ^ m) z) (shl-exact 8 k 64 s (omega arith))
+    ap₂ bitOr (e ∙ ap (λ m. v * 2 ^ m) z) (ap (λ m. m * 2 ^ k % 2 ^ 64) b ∙ shl-exact 8 k 64 s (omega arith))
     ∙ or-shifted v (8 + k) (x * 2 ^ k) (shl-lt 8 k s)
     ∙ ap (λ m. m + x * 2 ^ k) p ∙ sym (add-mul (v * 256) x (2 ^ k)) ∙ ap₂ (λ a m. a * 2 ^ m) (sym (number-snoc l at n q)) y
 
 -- the last is not shifted
-pub number-last : (l : Bytes) (at : ℕ) {r : ℕ} → at + 7 < length l → getD l (at + 7) 0 < 256 → r ≡ numberAt 7 l at * 2 ^ 8 → bitOr r (getD l (at + 7) 0) ≡ numberAt 8 l at
-number-last l at {r} q s e =
-    let x : ℕ = getD l (at + 7) 0 in
-    let z : x ≡ x * 2 ^ 0 % 2 ^ 64 = omega arith in
-    ap (bitOr r) z ∙ number-next l at 7 (omega arith) q s e ∙ omega arith
+pub number-last : (l : Bytes) (at : ℕ) {r w : ℕ} → at + 7 < length l → getD l (at + 7) 0 < 256 → w ≡ getD l (at + 7) 0 → r ≡ numberAt 7 l at * 2 ^ 8 → bitOr r w ≡ numberAt 8 l at
+number-last l at {r} {w} q s b e =
+    let z : w ≡ w * 2 ^ 0 % 2 ^ 64 = omega arith in
+    ap (bitOr r) z ∙ number-next l at 7 (omega arith) q s b e ∙ omega arith

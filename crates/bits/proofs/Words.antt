@@ -1,6 +1,6 @@
 -- Bytes as one word: its set bits, and whether it has an empty record.
 use mathlib.Core.Path.{_≡_, refl, sym, ap, ap₂, _∙_}
-use Prim.Native.Nat.{ℕ, zero, suc, _+_, _*_, _/_, _%_, _^_, _≤_, _<_}
+use Prim.Native.Nat.{ℕ, zero, suc, _+_, _-_, _*_, _/_, _%_, _^_, _≤_, _<_}
 use mathlib.Core.Bool.{true, _&&_}
 use native.Mathlib.Omega.{arith}
 use native.Mathlib.Nat.{mul-assoc, mul-le-mul-right, mod-eq-of-lt}
@@ -120,6 +120,15 @@ word-rest l (suc j) k s =
     let f : wordIn l (suc j + k) / 256 ≡ wordIn (drop 1 l) (j + k) = ap (λ n. wordIn l n / 256) z ∙ omega (arith, word-cons l (j + k), s 0) in
     ap (λ n. wordIn l (suc j + k) / 2 ^ n) y ∙ sym (shr-shr (wordIn l (suc j + k)) 8 (8 * j)) ∙ ap (λ x. x / 2 ^ (8 * j)) f
     ∙ word-rest (drop 1 l) j k (small-from l 1 s) ∙ ap (λ x. wordIn x k) (drop-drop j 1 l ∙ ap (λ n. drop n l) d)
+
+-- byte n of a word
+pub word-byte : (l : Bytes) (n : ℕ) → n < 8 → Small l → wordIn l 8 / 2 ^ (8 * n) % 256 ≡ getD l n 0
+word-byte l n h s =
+    let z : 8 ≡ n + suc (7 - n) = omega arith in
+    let y : n + 0 ≡ n = omega arith in
+    let r : wordIn l 8 / 2 ^ (8 * n) ≡ wordIn (drop n l) (suc (7 - n)) = ap (λ m. wordIn l m / 2 ^ (8 * n)) z ∙ word-rest l n (suc (7 - n)) s in
+    let g : getD (drop n l) 0 0 ≡ getD l n 0 = getD-drop n l 0 0 ∙ ap (λ m. getD l m 0) y in
+    omega (arith, r, word-cons (drop n l) (7 - n), g, s n)
 
 bits-first : (l : Bytes) (n : ℕ) → noneEmpty (bitsIn l (8 * suc n)) ≡ (noneEmpty (bits8 (getD l 0 0)) && noneEmpty (bitsIn (drop 1 l) (8 * n)))
 bits-first l n =

@@ -2,7 +2,7 @@
 ghost use Prim.Native.Nat.{_+_, _-_, _*_, _/_, _^_, _<_, _≤_};
 ghost use mathlib.Core.Path.{_≡_};
 ghost use lib.ListN.{length, drop};
-ghost use Rattle.loes.specs.Limits.{maxWidth, maxEdges, subBlockBits};
+ghost use Rattle.loes.specs.Limits.{maxWidth, maxEdges, subBlockBits, subBlockSize};
 ghost use Rattle.loes.specs.Bytes.{started, bitAt, bitsIn, numberAt};
 ghost use Rattle.loes.specs.Edges.{ones};
 ghost use Rattle.loes.specs.Entry.{keyBytes};
@@ -78,22 +78,23 @@ pub fn number4(l: &[u8], at: usize) -> usize
     number2(l, at) * TWO_BYTES + number2(l, at + 2)
 }
 
-// In eight: in this form it is one load when compiled.
+// In eight: their word with its bytes turned round, which is two instructions when compiled.
 pub fn number8(l: &[u8], at: usize) -> usize
     requires { ⌜ at + 8 ≤ length (now l) ⌝ }
     ensures { λ r. ⌜ r ≡ numberAt 8 (now (l .entry)) at ⌝ }
 {
-    ((l[at] as usize) << 56)
-        | ((l[at + 1] as usize) << 48)
-        | ((l[at + 2] as usize) << 40)
-        | ((l[at + 3] as usize) << 32)
-        | ((l[at + 4] as usize) << 24)
-        | ((l[at + 5] as usize) << 16)
-        | ((l[at + 6] as usize) << 8)
-        | (l[at + 7] as usize)
+    let x = word(l, at) as usize;
+    ((x % BYTE) << 56)
+        | (((x >> 8) % BYTE) << 48)
+        | (((x >> 16) % BYTE) << 40)
+        | (((x >> 24) % BYTE) << 32)
+        | (((x >> 32) % BYTE) << 24)
+        | (((x >> 40) % BYTE) << 16)
+        | (((x >> 48) % BYTE) << 8)
+        | ((x >> 56) % BYTE)
 }
 
-// Eight bytes as one word, the first byte the lowest: this too is one load.
+// Eight bytes as one word, the first byte the lowest: one load when compiled.
 pub fn word(l: &[u8], at: usize) -> u64
     requires { ⌜ at + 8 ≤ length (now l) ⌝ }
     ensures { λ r. ⌜ r ≡ wordIn (drop at (now (l .entry))) 8 ⌝ }
@@ -127,7 +128,7 @@ pub fn word_ones(l: &[u8], at: usize) -> usize
 
 // The set bits of bytes from..upto, at most a sub-block of them, by the table.
 pub fn tally_bytes(l: &[u8], t: &[u8], from: usize, upto: usize) -> usize
-    requires { ⌜ (from ≤ upto) × (upto ≤ length (now l)) × (upto ≤ from + subBlockBits / 8) × Tallies (now t) ⌝ }
+    requires { ⌜ (from ≤ upto) × (upto ≤ length (now l)) × (upto ≤ from + subBlockSize) × Tallies (now t) ⌝ }
     ensures { λ r. ⌜ (r ≡ ones (bitsIn (drop from (now (l .entry))) (8 * (upto - from)))) × (r ≤ subBlockBits) ⌝ }
 {
     let mut sum: usize = 0;
@@ -138,6 +139,15 @@ pub fn tally_bytes(l: &[u8], t: &[u8], from: usize, upto: usize) -> usize
         i += 1;
     }
     sum
+}
+
+// The set bits among the first k of byte `at`, by the table: the bits behind them are shifted out.
+pub fn tally_part(l: &[u8], t: &[u8], at: usize, k: usize) -> usize
+    requires { ⌜ (at < length (now l)) × (k ≤ 8) × Tallies (now t) ⌝ }
+    ensures { λ r. ⌜ (r ≡ ones (bitsIn (drop at (now (l .entry))) k)) × (r ≤ k) ⌝ }
+{
+    let x = (l[at] as usize) >> (8 - k);
+    t[x] as usize
 }
 
 // The table of tallies, to be bound once and lent.

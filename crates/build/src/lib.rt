@@ -109,8 +109,7 @@ fn ones_at(edges: &[u8], t: &[u8], s: Seen, o: EdgeOffset) -> usize
     if k == 0 {
         return s.ones;
     }
-    let x = edges[n / 8] as usize;
-    s.ones + t[x >> (8 - k)] as usize
+    s.ones + bits::tally_part(edges, t, n / 8, k)
 }
 
 // Where each level ends; returns the number of members.

@@ -5,7 +5,7 @@ use Prim.Native.Nat.{ℕ, suc, _+_, _-_, _*_, _/_, _%_, _^_, _≤_, _<_}
 use mathlib.Core.Bool.{Bool, true, false, _&&_, _||_, false≢true}
 use mathlib.Core.List.{List, [], _∷_}
 use native.Mathlib.Omega.{arith}
-use lib.ListN.{length, take, drop, getD, length-drop, take-append-drop}
+use lib.ListN.{length, take, drop, getD, length-drop}
 use lib.Dec.{eqb}
 use Rattle.loes.specs.Limits.{blockBits, subBlockBits, countBytes}
 use Rattle.loes.specs.Bytes.{Bytes, started, numberAt, bitsIn, packBits, sameNumbers}
@@ -24,7 +24,7 @@ use Rattle.loes.proofs.Ends.{ends-set, roots-set, full-set, follows-itself}
 use Rattle.loes.proofs.Bytes.{length-packed}
 use Rattle.loes.proofs.Bits.{bits-packed, length-bitsIn}
 use Rattle.loes.proofs.Numbers.{AllBytes, bytes-drop}
-use Rattle.loes.proofs.Reading.{bits-front, Passed, passed, valid-passed}
+use Rattle.loes.proofs.Reading.{bits-cut, Passed, passed, valid-passed}
 use Rattle.loes.proofs.Seven.{Agrees, encode-agrees, seven}
 use Rattle.bits.specs.Tables.{noneEmpty}
 use Rattle.bits.proofs.Counts.{ones-more}
@@ -127,8 +127,7 @@ module _ (l : Bytes) (e : Encoding) (f : Fields l e) where
       let n : length (take k y) ≡ k = ap length t ∙ length-packed x in
       sym (
       ap (bitsIn y) (g .bits)
-      ∙ ap (λ z. bitsIn z (length x)) (sym (take-append-drop k y))
-      ∙ bits-front (take k y) (drop k y) (length x) (started-room (length x) _ n)
+      ∙ sym (bits-cut y k (length x) (started-room (length x) _ n))
       ∙ ap (λ z. bitsIn z (length x)) t
       ∙ bits-packed x
       )

@@ -3,7 +3,7 @@ ghost use Prim.Native.Nat.{ℕ, _+_, _-_, _*_, _/_, _%_, _^_, _<_, _≤_, min};
 ghost use mathlib.Core.Path.{_≡_};
 ghost use mathlib.Core.Bool.{false};
 ghost use lib.ListN.{length, drop, getD};
-ghost use Rattle.loes.specs.Limits.{maxWidth, maxEdges, subBlockBits, subBlocks};
+ghost use Rattle.loes.specs.Limits.{maxWidth, maxEdges, subBlockBits, subBlocks, subBlockSize};
 ghost use Rattle.loes.specs.Bytes.{sameNumbers};
 ghost use Rattle.loes.specs.Edges.{rank};
 ghost use Rattle.loes.specs.Prefixes.{roots};
@@ -16,6 +16,7 @@ ghost use Rattle.bits.specs.Tables.{Tallies};
 ghost use Rattle.bits.specs.Words.{Scanned};
 ghost use Rattle.encoding.specs.Opened.{Opens, Placed, FieldsFit, Counted, edgesAt};
 ghost use Rattle.encoding.specs.Fields.{refusalOf, bodyBytes, laidBy, Fields, Parsed, Checks};
+ghost use Rattle.encoding.specs.Counting.{countSubBlock, countedTo, BlockFits};
 ghost use Rattle.encoding.specs.Agree.{Decides, EntriesAt, BlockBase, near, BytesTallied, Whole, Last, Levelled};
 ghost use Rattle.encoding.specs.Answers.{toldOutcome, rankedOutcome};
 use bits::EdgeOffset;
@@ -238,24 +239,48 @@ fn parse(l: &[u8]) -> Checked
 // So many edges are counted faster than looked up.
 const NEAR: usize = 256;
 
-// The set bits before an offset, by the index fields.
+// The counting behind every rank of an opened encoding, of which it sees one entry of field 5, one of field 6 and at most 64 bytes of field 4: it counts the set ones among their first n bits.
+// The entries' sum and the part of the last byte are found once. Then few bytes are counted one by one, more by words: first those behind the last whole word, as one.
+fn count_sub_block(block: usize, sub_block: usize, edges: &[u8], t: &[u8], n: usize) -> usize
+    requires { ⌜ (block ≤ maxEdges) × («sub_block» ≤ maxEdges) × (0 < n) × (n ≤ 8 * length (now edges)) × (length (now edges) ≤ subBlockSize) × Tallies (now t) ⌝ }
+    ensures { λ r. ⌜ r ≡ countSubBlock block «sub_block» (now (edges .entry)) n ⌝ }
+{
+    let bit = n - 1;
+    let last = bit / 8;
+    let found = block + sub_block + bits::tally_part(edges, t, last, bit % 8 + 1);
+    if last < 8 {
+        return found + bits::tally_bytes(edges, t, 0, last);
+    }
+    let k = last % 8;
+    let whole = last - k;
+    let rest = bits::part_word(edges, whole, k);
+    let mut sum = found + (u64::count_ones(rest) as usize);
+    let mut i = 0;
+    while i < whole {
+        sum += bits::word_ones(edges, i);
+        i += 8;
+    }
+    sum
+}
+
+// The set bits before an offset, by the index fields: the counting is lent the entries and the bytes of the sub-block of the last bit before it, up to that bit's byte.
 fn indexed_ones(l: &[u8], t: &[u8], e: Encoding, o: EdgeOffset) -> usize
-    requires { ⌜ FieldsFit (now l) e × Counted (now l) e × Tallies (now t) × (o .0 ≤ e .bits) ⌝ }
-    ensures { λ r. ⌜ r ≡ rank (edgesAt (now (l .entry)) e) (o .0) ⌝ }
+    requires { ⌜ FieldsFit (now l) e × BlockFits (now l) e (o .0) × Tallies (now t) × (o .0 ≤ e .bits) ⌝ }
+    ensures { λ r. ⌜ r ≡ countedTo (now (l .entry)) e (o .0) ⌝ }
 {
     let n = o.0;
     if n == 0 {
         return 0;
     }
     let last = n - 1;
-    let sub = last / Encoding::SUB_BLOCK_BITS;
-    let at = e.edges + last / 8;
     let j = last / Encoding::BLOCK_BITS;
+    let sub = last / Encoding::SUB_BLOCK_BITS;
     let block = bits::number8(l, e.blocks + Encoding::BLOCK_ENTRY * j);
     let sub_block = bits::number2(l, e.sub_blocks + Encoding::SUB_BLOCK_ENTRY * sub);
-    let whole = bits::tally_bytes(l, t, e.edges + Encoding::SUB_BLOCK_BYTES * sub, at);
-    let x = (l[at] as usize) >> (7 - last % 8);
-    block + sub_block + whole + (t[x] as usize)
+    let from = e.edges + Encoding::SUB_BLOCK_BYTES * sub;
+    let upto = e.edges + last / 8 + 1;
+    let counted = last % Encoding::SUB_BLOCK_BITS + 1;
+    count_sub_block(block, sub_block, &l[from..upto], t, counted)
 }
 
 // The set bits before an offset, if n are set before another that is near before it: the other's byte and those behind it are counted, less the bits before the other in its byte.
@@ -267,10 +292,10 @@ fn ones_near(l: &[u8], t: &[u8], e: Encoding, from: EdgeOffset, n: usize, o: Edg
     let last = o.0 - 1;
     let first = e.edges + a / 8;
     let at = e.edges + last / 8;
+    let before = bits::tally_part(l, t, first, a % 8);
     let whole = bits::tally_bytes(l, t, first, at);
-    let x = (l[at] as usize) >> (7 - last % 8);
-    let before = (l[first] as usize) >> (8 - a % 8);
-    n + whole + (t[x] as usize) - (t[before] as usize)
+    let part = bits::tally_part(l, t, at, last % 8 + 1);
+    n + whole + part - before
 }
 
 // The set bits before an offset, if n are set before another that is not behind it.
@@ -364,8 +389,8 @@ fn scan_words(l: &[u8], from: usize, words: usize) -> Scan
 
 // A whole sub-block: its eight words, by a loop of its own when compiled.
 fn scan_sub_block(l: &[u8], from: usize) -> Tallied
-    requires { ⌜ from + subBlockBits / 8 ≤ length (now l) ⌝ }
-    ensures { λ r. ⌜ BytesTallied (drop from (now (l .entry))) (subBlockBits / 8) r ⌝ }
+    requires { ⌜ from + subBlockSize ≤ length (now l) ⌝ }
+    ensures { λ r. ⌜ BytesTallied (drop from (now (l .entry))) subBlockSize r ⌝ }
 {
     let p = scan_words(l, from, Encoding::SUB_BLOCK_BYTES / 8);
     if p.full != RECORDS {
@@ -376,7 +401,7 @@ fn scan_sub_block(l: &[u8], from: usize) -> Tallied
 
 // Fewer bytes, from..upto: whole words, then the bytes behind them as one.
 fn part_ones(l: &[u8], from: usize, upto: usize) -> Tallied
-    requires { ⌜ (8 ≤ from) × (from ≤ upto) × (upto ≤ length (now l)) × (upto ≤ from + subBlockBits / 8) ⌝ }
+    requires { ⌜ (8 ≤ from) × (from ≤ upto) × (upto ≤ length (now l)) × (upto ≤ from + subBlockSize) ⌝ }
     ensures { λ r. ⌜ BytesTallied (drop from (now (l .entry))) (upto - from) r ⌝ }
 {
     let size = upto - from;

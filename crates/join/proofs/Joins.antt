@@ -4,7 +4,7 @@ use Prim.Native.Nat.{ℕ, _+_, _*_, _-_, _/_, _≤_, _<_}
 use mathlib.Core.Bool.{Bool, true, false, not, cond}
 use mathlib.Core.List.{[], _∷_}
 use native.Mathlib.Omega.{arith}
-use lib.ListN.{length, take, drop, take-append-drop, length-drop}
+use lib.ListN.{length, take, drop, length-drop}
 use lib.Seq.{length-take-le}
 use Rattle.loes.proofs.Lists.{rest-is}
 use lib.Dec.{eqb}
@@ -19,7 +19,7 @@ use Rattle.loes.specs.Held.{entryHeld, Holds}
 use Rattle.loes.specs.Model.{OutcomeOf, refusal, joinTests, writes}
 use Rattle.loes.specs.Calls.{reading, afterReading}
 use Rattle.loes.proofs.Tests.{eq-yes, yes-eq, both}
-use Rattle.loes.proofs.Reading.{bits-front, along-sized}
+use Rattle.loes.proofs.Reading.{bits-cut, along-sized}
 use Rattle.loes.proofs.Writes.{writes-refused, writes-on}
 use Rattle.loes.proofs.Bits.{length-bitsIn}
 use Rattle.encoding.specs.Opened.{Opens}
@@ -129,7 +129,7 @@ module _ (m k : ℕ) (l : Bytes) (j : Joined m k l) where
     cut-room = omega (arith, size, length-take-le n l cut-fits)
 
     cut-bits : bitsIn (take n l) k ≡ bitsIn l k
-    cut-bits = sym (ap (λ x. bitsIn x k) (sym (take-append-drop n l)) ∙ bits-front (take n l) (drop n l) k cut-room)
+    cut-bits = bits-cut l n k cut-room
 
     pub cut-held : entryHeld m k (take n l) ≡ entryHeld m k l
     unfolding entryHeld

@@ -7,7 +7,7 @@ use mathlib.Core.List.{[], _++_, flatten}
 use mathlib.Core.Option.{Option, none, some}
 use native.Mathlib.Omega.{arith}
 use native.Mathlib.Decide.{decLe}
-use lib.ListN.{length, drop, getD, length-append, length-drop, List·getD-append}
+use lib.ListN.{length, take, drop, getD, length-append, length-drop, take-append-drop, List·getD-append}
 use lib.Seq.{drop-at, drop-drop, getD-drop}
 use lib.Dec.{eqb, ltb}
 use Rattle.loes.specs.Limits.{maxWidth, maxEdges, blockBits, subBlockBits, headBytes, widthBytes, countBytes, levelEntry, blockEntry, subBlockEntry}
@@ -129,6 +129,9 @@ unfolding bitsIn bitAt
 bits-front l x n h =
     tabulate-ext (bitAt (l ++ x)) (bitAt l) n
     (λ i q. let r : i / 8 < length l = omega arith in unfold bitAt in rw (List·getD-append l x 0 (i / 8) r))
+
+pub bits-cut : (l : Bytes) (i n : ℕ) → n ≤ 8 * length (take i l) → bitsIn (take i l) n ≡ bitsIn l n
+bits-cut l i n h = sym (bits-front (take i l) (drop i l) n h) ∙ ap (λ x. bitsIn x n) (take-append-drop i l)
 
 edges-room : (e : Entry) → edgeCount e ≤ 8 * length (edgeBody e)
 unfolding started

@@ -16,6 +16,10 @@ blockBits = 65536
 abbrev pub subBlockBits : ℕ
 subBlockBits = 512
 
+-- the edge bytes of a sub-block
+abbrev pub subBlockSize : ℕ
+subBlockSize = subBlockBits / 8
+
 -- the bytes of a field's tag, of its length, and of both: its head
 abbrev pub tagBytes : ℕ
 tagBytes = 1

@@ -1,11 +1,11 @@
 -- The index fields choose where a search for a set bit starts.
 use mathlib.Core.Path.{_≡_, refl, sym, ap, ap₂, _∙_}
-use Prim.Native.Nat.{ℕ, suc, _+_, _-_, _*_, _/_, _%_, _^_, _≤_, _<_}
+use Prim.Native.Nat.{ℕ, suc, _+_, _-_, _*_, _/_, _%_, _≤_, _<_}
 use mathlib.Core.Bool.{Bool, false, _&&_}
 use mathlib.Core.List.{List}
 use native.Mathlib.Omega.{arith}
 use native.Mathlib.Decide.{decLe}
-use lib.Seq.{take-all, getD-drop}
+use lib.Seq.{take-all, getD-drop, drop-drop}
 use lib.Dec.{leb, ltb}
 use borrow.Author.Tests.{leb-false}
 use Rattle.loes.proofs.Tests.{lt-yes}
@@ -16,8 +16,8 @@ use Rattle.loes.specs.Edges.{ones, rank}
 use Rattle.loes.specs.Entry.{edgesOf, edgeCount}
 use Rattle.loes.specs.Encode.{blockOnes, subBlockOnes}
 use Rattle.loes.specs.Read.{start5, entryIn}
-use Rattle.bits.specs.Tables.{select, bits8, placeOf, Tallies}
-use Rattle.bits.proofs.Counts.{rank-bits, ones-more, shift-small, part-ones}
+use Rattle.bits.specs.Tables.{select, placeOf}
+use Rattle.bits.proofs.Counts.{rank-bits, ones-at}
 use Rattle.loes.proofs.Lists.{ones-le}
 use Rattle.encoding.specs.declared.Encoding.{Encoding}
 use Rattle.encoding.specs.Opened.{Opens, edgesAt}
@@ -29,16 +29,6 @@ use Rattle.query.proofs.Select.{byte-few, found-byte, ones-mono, select
 -- not by k, though there: more
 pub more-by : (a b n k : ℕ) → (ltb a b && leb n k) ≡ false → a < b → k < n
 more-by a b n k h g = leb-false n k (rw (lt-yes a b g) at h)
-
--- the set bits of a byte before an offset, by the table
-pub before-is : (l d t : Bytes) (at from : ℕ) → d ≡ drop at l → Tallies t → getD l (at + from / 8) 0 < 256
-    → getD t (getD l (at + from / 8) 0 / 2 ^ (8 - from % 8)) 0 ≡ ones (bitsIn (drop (from / 8) d) (from % 8))
-before-is l d t at from part table small =
-    let y : Bytes = drop at l in
-    let g : getD l (at + from / 8) 0 ≡ getD y (from / 8) 0 = sym (getD-drop at l (from / 8) 0) in
-    table .rule (getD l (at + from / 8) 0 / 2 ^ (8 - from % 8)) (shift-small (getD l (at + from / 8) 0) (8 - from % 8) small)
-    ∙ ap (λ x. ones (bits8 (x / 2 ^ (8 - from % 8)))) g
-    ∙ part-ones y (from / 8) (from % 8) (omega (arith, g, small)) (omega arith) ∙ ap (λ x. ones (bitsIn (drop (from / 8) x) (from % 8))) (sym part)
 
 rank-all : (e : List Bool) (n : ℕ) → length e ≤ n → rank e n ≡ ones e
 unfolding rank
@@ -84,7 +74,7 @@ module _ (l : Bytes) (e : Encoding) (o : Opens l e) where
 
     -- from an offset on: the byte of the offset, and its bits before the offset
     pub behind-is : (from k c : ℕ) → rank (edgesOf (entryIn l)) from + k < ones (edgesOf (entryIn l))
-        → c ≡ ones (bitsIn (drop (from / 8) d) (from % 8)) → (from < e .bits) × (numbered d (from / 8) (c + k) ≡ rank (edgesOf (entryIn l)) from + k)
+        → c ≡ ones (bitsIn (drop (e .edges + from / 8) l) (from % 8)) → (from < e .bits) × (numbered d (from / 8) (c + k) ≡ rank (edgesOf (entryIn l)) from + k)
     unfolding numbered edgesAt edgeCount
     behind-is from k c h ec =
         let x : List Bool = edgesOf (entryIn l) in
@@ -95,7 +85,8 @@ module _ (l : Bytes) (e : Encoding) (o : Opens l e) where
         ] in
         let y : rank x from ≡ ones (bitsIn d from) =
         ap (λ v. rank v from) (sym (opens-edges l e o)) ∙ rank-bits (drop (e .edges) l) (e .bits) from (omega arith) ∙ ap (λ v. ones (bitsIn v from)) (sym part) in
-        (lt, omega (arith, y, ec, ap (λ v. ones (bitsIn d v)) z, ones-more d (from / 8) (from % 8)))
+        let w : drop (from / 8) d ≡ drop (e .edges + from / 8) l = ap (drop (from / 8)) part ∙ drop-drop (from / 8) (e .edges) l in
+        (lt, omega (arith, y, ec, ap (λ v. ones (bitsIn v (from % 8))) w, ones-at d (from / 8) (from % 8) from z))
 
   -- an edge that is set bit number k of byte i of the edges
   pub edge-in-byte : (n i k : ℕ) → n < ones (edgesOf (entryIn l)) → InByte (drop (e .edges) l) n i k

@@ -294,8 +294,7 @@ fn find_behind(l: &[u8], t: &[u8], e: Encoding, from: EdgeOffset, k: usize) -> B
 {
     let start = e.edges;
     let at = from.0 / 8;
-    let x = (l[start + at] as usize) >> (8 - from.0 % 8);
-    let before = t[x] as usize;
+    let before = bits::tally_part(l, t, start + at, from.0 % 8);
     find_from(&l[start..], t, at, before + k)
 }
 

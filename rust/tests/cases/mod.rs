@@ -200,6 +200,11 @@ macro_rules! differential_tests {
         }
 
         #[test]
+        fn ranks_where_blocks_begin_and_end() {
+            cases::rounds("ranks_where_blocks_begin_and_end", 1, cases::rank_limits::<$subject>);
+        }
+
+        #[test]
         fn prefix_examples() {
             cases::check_prefix_examples::<$subject>();
         }

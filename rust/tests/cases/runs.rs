@@ -241,11 +241,16 @@ pub fn check_members<S: Subject>(laid: &Laid) {
     }
 }
 
+/// The offsets at which a byte, a word, a sub-block or a block ends, and those beside.
+const RANK_LIMITS: [u64; 14] = [0, 1, 7, 8, 9, 63, 64, 65, 511, 512, 513, 65_535, 65_536, 65_537];
+
 /// The rank at every offset from 0 to the end, which is how many set bits were before it, and at none above.
 fn check_ranks<S: Subject>(laid: &Laid) {
     let bytes = laid.encode();
     let (opened, [_, n, b]) = S::open(&bytes).unwrap();
-    let checked = |offset: u64| bytes.len() < 400 || [0, 1, b].contains(&offset);
+    assert_eq!(b, laid.bits() as u64);
+    // a check of many bytes is made at few offsets
+    let checked = |offset: u64| bytes.len() < 400 || RANK_LIMITS.contains(&offset) || offset.abs_diff(b) <= 1;
     let check = |offset: u64, right: Answer| {
         let question = Question::Rank(offset);
         assert_eq!(S::ask_opened(&opened, &question, &mut []), right, "rank {offset} of {b}");
@@ -284,7 +289,7 @@ fn check_edges<S: Subject>(laid: &Laid) {
     }
 }
 
-/// Empty, small and full sets, and where a byte, a sub-block or a block is just filled; and the longest edge sequence.
+/// Empty, small and full sets, and where a byte, or a later sub-block or block, is just filled.
 pub fn ranks<S: Subject>(rng: &mut Rng) {
     for width in WIDTHS {
         let mut sets = vec![Set::new(width, []), Set::new(width, [random_key(rng, width)])];
@@ -297,16 +302,50 @@ pub fn ranks<S: Subject>(rng: &mut Rng) {
             check_edges::<S>(&laid);
         }
     }
-    for bits in (24..80).step_by(2).chain([510, 512, 514, 1_022, 1_024, 1_026, 65_534, 65_536, 65_538, 131_072, 131_074]) {
+    for bits in (24..80).step_by(2).chain([1_022, 1_024, 1_026, 131_072, 131_074]) {
         let width = if bits < 5_000 { 12 } else { *rng.pick(&[18, 256]) };
         let laid = set_with_records(rng, width, bits / 2).lay();
         assert_eq!(laid.bits(), bits);
         check_ranks::<S>(&laid);
         check_edges::<S>(&laid);
     }
-    let laid = half_set(rng.below(2)).lay();
-    assert_eq!(laid.bits(), plain::MAX_EDGES);
-    check_ranks::<S>(&laid);
+}
+
+/// All keys that go on behind one prefix: a record for each of its bits, and as many as so many other bits can have.
+fn set_behind(rng: &mut Rng, prefix_bits: usize, others: usize) -> Set {
+    let (width, first) = (prefix_bits + others, rng.below(1 << prefix_bits) << others);
+    Set::new(width, (first..first + (1 << others)).map(|number| number_key(width, number)))
+}
+
+/// Sets of many widths with so many edge bits: of few keys, of many, and of all behind one prefix.
+fn sets_with_bits(rng: &mut Rng, bits: usize) -> Vec<Set> {
+    let records = bits / 2;
+    match bits {
+        0 => WIDTHS.map(|width| Set::new(width, [])).to_vec(),
+        2 => [&[0x00][..], &[0x80], &[0x00, 0x80]].map(|keys| Set::new(1, keys.iter().map(|key| vec![*key]))).to_vec(),
+        plain::MAX_EDGES => vec![half_set(rng.below(2)), set_with_records(rng, 64, records), set_with_records(rng, 256, records)],
+        _ => {
+            let others = (records + 1).ilog2() as usize;
+            let mut sets = vec![set_behind(rng, records + 1 - (1 << others), others)];
+            let widths = if bits < 5_000 { [9, 12, 17, 64, 129, records.min(256)] } else { [17, 18, 33, 64, 129, 256] };
+            sets.extend(widths.map(|width| set_with_records(rng, width, records)));
+            sets
+        }
+    }
+}
+
+/// Where the last sub-block or block is filled, and one record before and behind; no edges, the fewest and the most.
+pub fn rank_limits<S: Subject>(rng: &mut Rng) {
+    for bits in [0, 2, 510, 512, 514, 65_534, 65_536, 65_538, plain::MAX_EDGES] {
+        for set in sets_with_bits(rng, bits) {
+            let laid = set.lay();
+            assert_eq!(laid.bits(), bits);
+            check_ranks::<S>(&laid);
+            if bits < plain::MAX_EDGES {
+                check_edges::<S>(&laid);
+            }
+        }
+    }
 }
 
 /// Levels of just so many records that a search begins elsewhere or a level is counted otherwise, and levels of many sub-blocks

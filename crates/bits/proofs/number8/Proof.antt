@@ -1,122 +1,53 @@
 use denote.Ref.{now}
-use mathlib.Core.Path.{sym, ap, _∙_}
-use Prim.Native.Nat.{_+_, _*_, _^_}
+use mathlib.Core.Path.{_≡_, sym, ap, _∙_}
+use Prim.Native.Nat.{ℕ, _+_, _*_, _/_, _%_, _^_, _<_}
 use native.Mathlib.Omega.{arith}
+use lib.ListN.{drop, getD}
 use lib.Pow.{shl-exact}
+use lib.Seq.{getD-drop}
+use Rattle.loes.specs.Bytes.{Bytes, numberAt}
 use Rattle.bits.proofs.Halves.{one-byte, number-next, number-last}
-use Rattle.bits.proofs.Words.{Small}
+use Rattle.bits.proofs.Words.{Small, small-from, word-byte}
 use borrow.Author.Needs.{needs}
 use Rattle.bits.proofs.number8.Statement.{statement}
 use Rattle.bits.proofs.number8.Tie as tie
 
-shared-slice-read-result : tie.Need-shared-slice-read-result
-shared-slice-read-result c = search needs
+word-requires : tie.Need-word-requires
+word-requires c κs = search needs
 
-cast-result : tie.Need-cast-result
-cast-result c = omega (arith, c .shared-slice-known .given (c .before .args .at))
+module _ (c : tie.After-word) where
+  abbrev bytes : Bytes
+  bytes = now (c .before .before .args .l)
 
-add-result : tie.Need-add-result
-add-result c = search needs
+  abbrev at : ℕ
+  at = c .before .before .args .at
 
-shared-slice-read-result-2 : tie.Need-shared-slice-read-result-2
-shared-slice-read-result-2 c = search needs
+  small : Small bytes
+  small i = c .before .shared-slice-known .given i .fits
 
-cast-result-2 : tie.Need-cast-result-2
-cast-result-2 c = omega (arith, c .shared-slice-known2 .given (c .before .before .args .at + 1))
+  -- byte n of the word is byte n from the place on
+  byte : (n : ℕ) → n < 8 → c .word .result / 2 ^ (8 * n) % 256 ≡ getD bytes (at + n) 0
+  byte n h = ap (λ x. x / 2 ^ (8 * n) % 256) (c .word .ensures) ∙ word-byte (drop at bytes) n h (small-from bytes at small) ∙ getD-drop at bytes n 0
 
-add-result-2 : tie.Need-add-result-2
-add-result-2 c = search needs
-
-shared-slice-read-result-3 : tie.Need-shared-slice-read-result-3
-shared-slice-read-result-3 c = search needs
-
-cast-result-3 : tie.Need-cast-result-3
-cast-result-3 c = omega (arith, c .shared-slice-known3 .given (c .before .before .before .args .at + 2))
-
-add-result-3 : tie.Need-add-result-3
-add-result-3 c = search needs
-
-shared-slice-read-result-4 : tie.Need-shared-slice-read-result-4
-shared-slice-read-result-4 c = search needs
-
-cast-result-4 : tie.Need-cast-result-4
-cast-result-4 c = omega (arith, c .shared-slice-known4 .given (c .before .before .before .before .args .at + 3))
-
-add-result-4 : tie.Need-add-result-4
-add-result-4 c = search needs
-
-shared-slice-read-result-5 : tie.Need-shared-slice-read-result-5
-shared-slice-read-result-5 c = search needs
-
-cast-result-5 : tie.Need-cast-result-5
-cast-result-5 c = omega (arith, c .shared-slice-known5 .given (c .before .before .before .before .before .args .at + 4))
-
-add-result-5 : tie.Need-add-result-5
-add-result-5 c = search needs
-
-shared-slice-read-result-6 : tie.Need-shared-slice-read-result-6
-shared-slice-read-result-6 c = search needs
-
-cast-result-6 : tie.Need-cast-result-6
-cast-result-6 c = omega (arith, c .shared-slice-known6 .given (c .before .before .before .before .before .before .args .at + 5))
-
-add-result-6 : tie.Need-add-result-6
-add-result-6 c = search needs
-
-shared-slice-read-result-7 : tie.Need-shared-slice-read-result-7
-shared-slice-read-result-7 c = search needs
-
-cast-result-7 : tie.Need-cast-result-7
-cast-result-7 c = omega (arith, c .shared-slice-known7 .given (c .before .before .before .before .before .before .before .args .at + 6))
-
-add-result-7 : tie.Need-add-result-7
-add-result-7 c = search needs
-
-shared-slice-read-result-8 : tie.Need-shared-slice-read-result-8
-shared-slice-read-result-8 c = search needs
-
-cast-result-8 : tie.Need-cast-result-8
-cast-result-8 c = omega (arith, c .shared-slice-known8 .given (c .before .before .before .before .before .before .before .before .args .at + 7))
+  first : c .word .result % 256 * 2 ^ 56 % 2 ^ 64 ≡ numberAt 1 bytes at * 2 ^ 56
+  first =
+      let z : at + 0 ≡ at = omega arith in
+      let x : ℕ = c .word .result in
+      let y : x / 1 ≡ x = omega arith in
+      let b : x % 256 ≡ getD bytes at 0 = ap (λ n. n % 256) (sym y) ∙ byte 0 (omega arith) ∙ ap (λ n. getD bytes n 0) z in
+      ap (λ n. n * 2 ^ 56 % 2 ^ 64) b ∙ shl-exact 8 56 64 (small at) (omega arith) ∙ ap (λ n. n * 2 ^ 56) (sym (one-byte bytes at (omega (arith, c .before .before .pre))))
 
 returns : tie.Need-returns
 returns c =
-    let a = c .before .before .before .before .before .before .before .before .args in
-    let l = now (a .l) in
-    let s : Small l = λ i. c .shared-slice-known8 .given i .fits in
-    let first = shl-exact 8 56 64 (s (a .at)) (omega arith) ∙ ap (λ v. v * 2 ^ 56) (sym (one-byte l (a .at) (omega arith))) in
-    number-last l (a .at) (omega arith) (s _)
-    (number-next l (a .at) 6 (omega arith) (omega arith) (s _)
-    (number-next l (a .at) 5 (omega arith) (omega arith) (s _)
-    (number-next l (a .at) 4 (omega arith) (omega arith) (s _)
-    (number-next l (a .at) 3 (omega arith) (omega arith) (s _)
-    (number-next l (a .at) 2 (omega arith) (omega arith) (s _)
-    (number-next l (a .at) 1 (omega arith) (omega arith) (s _) first))))))
+    let l = bytes c in
+    let p = at c in
+    number-last l p (omega arith) (small c _) (byte c 7 (omega arith))
+    (number-next l p 6 (omega arith) (omega arith) (small c _) (byte c 6 (omega arith))
+    (number-next l p 5 (omega arith) (omega arith) (small c _) (byte c 5 (omega arith))
+    (number-next l p 4 (omega arith) (omega arith) (small c _) (byte c 4 (omega arith))
+    (number-next l p 3 (omega arith) (omega arith) (small c _) (byte c 3 (omega arith))
+    (number-next l p 2 (omega arith) (omega arith) (small c _) (byte c 2 (omega arith))
+    (number-next l p 1 (omega arith) (omega arith) (small c _) (byte c 1 (omega arith)) (first c)))))))
 
 pub number8-spec : {M : Type 1} → statement M
-number8-spec =
-    tie.close
-    (tie.spec
-    shared-slice-read-result
-    cast-result
-    add-result
-    shared-slice-read-result-2
-    cast-result-2
-    add-result-2
-    shared-slice-read-result-3
-    cast-result-3
-    add-result-3
-    shared-slice-read-result-4
-    cast-result-4
-    add-result-4
-    shared-slice-read-result-5
-    cast-result-5
-    add-result-5
-    shared-slice-read-result-6
-    cast-result-6
-    add-result-6
-    shared-slice-read-result-7
-    cast-result-7
-    add-result-7
-    shared-slice-read-result-8
-    cast-result-8
-    returns)
+number8-spec = tie.close (tie.spec word-requires returns)
