@@ -13,14 +13,14 @@ pub mod tables;
 // Three separate counts: a call that wants one does not take another.
 // An offset in the edge sequence.
 #[repr(C)]
-#[derive(Drop)]
+#[derive(Clone, Copy)]
 pub struct EdgeOffset(pub usize);
 // The number of a record in a sequence of records.
-#[derive(Drop)]
+#[derive(Clone, Copy)]
 pub struct RecordIndex(pub usize);
 // A key's index among the members in order (document 01: lot).
 #[repr(C)]
-#[derive(Drop)]
+#[derive(Clone, Copy)]
 pub struct MemberIndex(pub usize);
 
 // How many parts of a size are started by n: n / size, rounded up.

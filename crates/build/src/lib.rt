@@ -58,7 +58,7 @@ fn put_head(out: &mut [u8], tag: u8, n: usize)
 
 // ---- Counting
 // The set bits of so many bytes from the first on.
-#[derive(Drop)]
+#[derive(Clone, Copy)]
 pub struct Seen {
     pub bytes: usize,
     pub ones: usize,
@@ -280,7 +280,7 @@ pub fn too_short(m: usize, b: usize, room: usize) -> bool
 
 // ---- The writer
 // The length of what was written, or the refusal.
-#[derive(Drop)]
+#[derive(Clone, Copy)]
 pub enum Written {
     Refused(u8),
     Length(usize),
@@ -314,7 +314,7 @@ pub fn write_fitting(m: usize, b: usize, edges: &[u8], t: &[u8], out: &mut [u8])
 {
     let at = edges_start(m);
     let end = at + edges.len();
-    let copied = bytes::copy(edges, &mut out[at..end]);
+    out[at..end].copy_from_slice(edges);
     write_around_edges(m, b, t, out);
 }
 

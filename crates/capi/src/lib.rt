@@ -51,7 +51,7 @@ const AFTER: usize = 2;
 
 // loes_answer
 #[repr(C)]
-#[derive(Drop)]
+#[derive(Clone, Copy)]
 pub struct Answer {
     pub refusal: u32,
     pub found: u32,
@@ -60,7 +60,7 @@ pub struct Answer {
 
 // loes_opened
 #[repr(C)]
-#[derive(Drop)]
+#[derive(Clone, Copy)]
 pub struct Opened {
     pub refusal: u32,
     pub width: u32,
@@ -70,7 +70,7 @@ pub struct Opened {
 
 // loes_range
 #[repr(C)]
-#[derive(Drop)]
+#[derive(Clone, Copy)]
 pub struct Range {
     pub refusal: u32,
     pub first: MemberIndex,
@@ -79,7 +79,7 @@ pub struct Range {
 
 // loes_lengths
 #[repr(C)]
-#[derive(Drop)]
+#[derive(Clone, Copy)]
 pub struct Lengths {
     pub refusal: u32,
     pub both: usize,
@@ -89,14 +89,14 @@ pub struct Lengths {
 
 // loes_cursor
 #[repr(C)]
-#[derive(Drop)]
+#[derive(Clone, Copy)]
 pub struct Cursor {
     pub state: usize,
     pub offsets: [EdgeOffset; Encoding::MAX_WIDTH],
 }
 
 // A step by value: the cursor that it leaves, and its answer.
-#[derive(Drop)]
+#[derive(Clone, Copy)]
 pub struct CursorAnswer {
     pub cursor: Cursor,
     pub answer: Answer,
@@ -104,7 +104,7 @@ pub struct CursorAnswer {
 
 // A step over lent offsets: its answer, and the state that it leaves.
 #[repr(C)]
-#[derive(Drop)]
+#[derive(Clone, Copy)]
 pub struct StateAnswer {
     pub answer: Answer,
     pub state: usize,

@@ -17,7 +17,7 @@ use encoding::Encoding;
 use loes::refusal::{BAD_CURSOR, SHORT_BUFFER};
 
 // Where a cursor stands.
-#[derive(Drop)]
+#[derive(Clone, Copy)]
 pub enum State {
     Before,
     At,
@@ -25,7 +25,7 @@ pub enum State {
 }
 
 // Before, after or at a member, with one edge offset for each level; unused offsets are 0 (document 01: a walk's place).
-#[derive(Drop)]
+#[derive(Clone, Copy)]
 pub struct Cursor {
     pub state: State,
     pub offsets: [EdgeOffset; Encoding::MAX_WIDTH],
@@ -76,21 +76,21 @@ fn offsets_of(path: [usize; Encoding::MAX_WIDTH]) -> [EdgeOffset; Encoding::MAX_
 }
 
 // What a step returns: a refusal, or the bytes of the key that it wrote; 0 if it went to after.
-#[derive(Drop)]
+#[derive(Clone, Copy)]
 pub enum StepAnswer {
     Refused(u8),
     Wrote(usize),
 }
 
 // A step by value: the cursor that it leaves, and what it returns.
-#[derive(Drop)]
+#[derive(Clone, Copy)]
 pub struct Stepped {
     pub cursor: Cursor,
     pub answer: StepAnswer,
 }
 
 // A step over lent offsets: what it returns, and the state that it leaves.
-#[derive(Drop)]
+#[derive(Clone, Copy)]
 pub struct Walked {
     pub answer: StepAnswer,
     pub state: State,

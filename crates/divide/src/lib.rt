@@ -12,7 +12,7 @@ use bits::RecordIndex;
 use restrict::{BOTH, FIRST_ONLY, SECOND_ONLY};
 
 // A number for each of three parts: edge bits, the bytes of a buffer, or those that were written.
-#[derive(Drop)]
+#[derive(Clone, Copy)]
 pub struct Three {
     pub both: usize,
     pub only_first: usize,

@@ -21,7 +21,7 @@ use bits::EdgeOffset;
 use loes::refusal;
 
 // An opened encoding (document 01: an opened book): its numbers, and where the bodies of fields 4 to 6 begin.
-#[derive(Drop)]
+#[derive(Clone, Copy)]
 pub struct Encoding {
     // m
     pub width: usize,
@@ -108,7 +108,7 @@ pub fn end_of(e: Encoding) -> usize
 
 // ---- Reading the fields
 // What a tag says: the length laid down for its field's body, or the refusal.
-#[derive(Drop)]
+#[derive(Clone, Copy)]
 pub enum Laid {
     Length(usize),
     Refused(u8),
@@ -212,7 +212,7 @@ fn tail_refusal(l: &[u8], e: Encoding) -> u8
 }
 
 // An opened encoding, or the refusal.
-#[derive(Drop)]
+#[derive(Clone, Copy)]
 pub enum Checked {
     Refused(u8),
     Opened(Encoding),
@@ -316,7 +316,7 @@ fn ones_on(l: &[u8], t: &[u8], e: Encoding, from: EdgeOffset, n: usize, o: EdgeO
 
 // ---- The check of 7
 // The set bits of edge bytes that are right so far.
-#[derive(Drop)]
+#[derive(Clone, Copy)]
 pub enum Tallied {
     Wrong,
     Ones(usize),
@@ -367,7 +367,7 @@ const RECORDS: u64 = 0x5555_5555_5555_5555;
 const BYTE_RECORDS: usize = 0x55;
 
 // What is found in bytes: RECORDS as long as no record is empty, and the set bits.
-#[derive(Drop)]
+#[derive(Clone, Copy)]
 pub struct Scan {
     pub full: u64,
     pub ones: usize,
@@ -601,7 +601,7 @@ pub fn edge_at(l: &[u8], e: Encoding, o: EdgeOffset) -> bool
 
 // ---- Calls
 // m, n and b, or the refusal.
-#[derive(Drop)]
+#[derive(Clone, Copy)]
 pub enum Told {
     Refused(u8),
     Numbers(usize, usize, usize),
@@ -618,7 +618,7 @@ pub fn open(l: &[u8]) -> Told
 }
 
 // The rank of an offset: the set bits strictly before it; or the refusal.
-#[derive(Drop)]
+#[derive(Clone, Copy)]
 pub enum Ranked {
     Refused(u8),
     Rank(usize),

@@ -24,14 +24,14 @@ use merge::Sizes;
 use restrict::Remainder;
 
 // Which of the two.
-#[derive(Drop)]
+#[derive(Clone, Copy)]
 pub enum Join {
     Union,
     Difference,
 }
 
 // Two opened encodings of one width, or the refusal.
-#[derive(Drop)]
+#[derive(Clone, Copy)]
 pub enum Pair {
     Refused(u8),
     Opened(Encoding, Encoding),

@@ -144,7 +144,7 @@ built (l ∷ ls) n h =
     record {
       all = g.all;
       size = g.size ∙ h.0;
-      same_bit = λ d. elim d [ zero ↦ λ j. g.top | suc i ↦ λ j. g.deeper i ∙ u.same_bit i (omega arith) ];
+      same_bit = λ d. elim d as (λ (i : ℕ). i < suc (length ls) → forest_level i (suc (length ls)) (build n (l ∷ ls)) ≡ get_or (l ∷ ls) i []) [ zero ↦ λ j. g.top | suc i ↦ λ j. g.deeper i ∙ u.same_bit i (omega arith) ];
     }
 
 -- well-formed levels from one record are those of a set with a member

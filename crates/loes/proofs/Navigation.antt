@@ -1,5 +1,5 @@
 -- Following edges over the whole sequence: presence, and the index of a key.
-use mathlib.Core.Path.{◌≡◌, refl, sym, ap, ◌∙◌}
+use mathlib.Core.Path.{◌≡◌, refl, sym, subst, ap, ◌∙◌}
 use Prim.Native.Nat.{ℕ, zero, suc, ◌+◌, ◌-◌, ◌*◌, ◌≤◌, ◌<◌}
 use mathlib.Core.Bool.{Bool, true, false, ◌&&◌}
 use mathlib.Core.List.{List, [], ◌∷◌, ◌++◌, append_assoc, append-nil}
@@ -125,8 +125,10 @@ unfolding edge_offsets last_of
 last_rank p b [] m s l f = nav_rank p b m s (omega (arith, simp length-append at l)) f
 last_rank p b (c ∷ k) m s l f =
     let short : length p < m = omega (arith, simp length-append at l) in
-    rw (nav_rank p b m s short (prefix_start (p ++ b ∷ []) (c ∷ k) m s (rw append_assoc f)), ← append_assoc p (b ∷ []) (c ∷ k))
-    (last_rank (p ++ b ∷ []) c k m s (rw append_assoc l) (rw append_assoc f))
+    subst
+    (λ (r : ℕ). rank (edges m s) (suc (last_of (edge_offsets (edges m s) r (c ∷ k)))) ≡ record_index (p ++ b ∷ (c ∷ k)) m s)
+    (sym (nav_rank p b m s short (prefix_start (p ++ b ∷ []) (c ∷ k) m s (rw append_assoc f))))
+    (rw append_assoc at (last_rank (p ++ b ∷ []) c k m s (rw append_assoc l) (rw append_assoc f)))
 
 -- the index that the edges give: how many members are smaller
 pub index_is_lem : (k : Key) (m : ℕ) (s : KeySet) → length k ≡ suc m → s k ≡ true → edge_index (suc m) s k ≡ smaller k (members (suc m) s)

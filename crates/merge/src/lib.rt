@@ -43,7 +43,7 @@ fn push_children(q: &mut [u8], n: RecordIndex, x: u8, y: u8) -> RecordIndex
 }
 
 // Records taken of the first and of the second, and the queue's end.
-#[derive(Drop)]
+#[derive(Clone, Copy)]
 pub struct Positions {
     pub a: RecordIndex,
     pub b: RecordIndex,
@@ -87,7 +87,7 @@ fn push_four(t: &[u16], x: usize, y: usize) -> Run
 }
 
 // Eight records of the union, in two numbers, the flags that they push, and how many records were taken of each.
-#[derive(Drop)]
+#[derive(Clone, Copy)]
 pub struct Eight {
     pub high: usize,
     pub low: usize,
@@ -218,7 +218,7 @@ fn root_flag(n: usize) -> u8
 }
 
 // The edge bits of a union, and its members, whose flags stand behind its records.
-#[derive(Drop)]
+#[derive(Clone, Copy)]
 pub struct Sizes {
     pub edges: usize,
     pub members: usize,

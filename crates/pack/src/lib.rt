@@ -24,7 +24,7 @@ use loes::refusal;
 const MAX_RECORDS: usize = Encoding::MAX_EDGES / 2;
 
 // A refusal's number, or the number asked for.
-#[derive(Drop)]
+#[derive(Clone, Copy)]
 pub enum Verdict {
     Refused(u8),
     Accepted(usize),

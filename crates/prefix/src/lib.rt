@@ -30,7 +30,7 @@ fn carry_down(l: &[u8], t: &[u8], e: Encoding, d: usize, r: RecordIndex) -> Reco
 }
 
 // So many members come before a prefix, and so many begin with it.
-#[derive(Drop)]
+#[derive(Clone, Copy)]
 struct Span {
     first: MemberIndex,
     count: usize,
@@ -64,7 +64,7 @@ fn range_of(l: &[u8], t: &[u8], e: Encoding, p: usize, bytes: &[u8]) -> Span
 }
 
 // ---- The question
-#[derive(Drop)]
+#[derive(Clone, Copy)]
 pub enum Prefixed {
     Refused(u8),
     Range(MemberIndex, usize),

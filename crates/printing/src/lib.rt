@@ -125,7 +125,7 @@ fn put_refused(text: &mut [u8], at: usize, k: u8) -> usize
 
 // ---- Pages of lines
 // How far a page has come: the cursor, the index of the member that it goes to next, and the bytes of text.
-#[derive(Drop)]
+#[derive(Clone, Copy)]
 pub struct Page {
     pub cursor: Cursor,
     pub index: MemberIndex,

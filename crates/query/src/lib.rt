@@ -20,28 +20,28 @@ use encoding::{Checked, Encoding};
 use loes::refusal::{BAD_KEY, OUT_OF_RANGE, SHORT_BUFFER};
 
 // ---- Answers
-#[derive(Drop)]
+#[derive(Clone, Copy)]
 pub enum Membership {
     Refused(u8),
     Present,
     Absent,
 }
 
-#[derive(Drop)]
+#[derive(Clone, Copy)]
 pub enum Lookup {
     Refused(u8),
     Index(MemberIndex),
     Absent,
 }
 
-#[derive(Drop)]
+#[derive(Clone, Copy)]
 pub enum Bound {
     Refused(u8),
     Index(MemberIndex),
     End,
 }
 
-#[derive(Drop)]
+#[derive(Clone, Copy)]
 pub enum WrittenKey {
     Refused(u8),
     Bytes(usize),
@@ -49,7 +49,7 @@ pub enum WrittenKey {
 
 // ---- The descent
 // A descent on its way: the record of the key's prefix, or the one it would have, and whether that prefix is found.
-#[derive(Drop)]
+#[derive(Clone, Copy)]
 pub struct Spot {
     pub record: RecordIndex,
     pub found: bool,
@@ -118,7 +118,7 @@ pub fn descend(l: &[u8], t: &[u8], e: Encoding, key: &[u8], levels: usize) -> Sp
 }
 
 // A key among the members: how many are smaller, and whether it is one.
-#[derive(Drop)]
+#[derive(Clone, Copy)]
 pub struct Position {
     pub below: MemberIndex,
     pub found: bool,
@@ -163,7 +163,7 @@ fn ones_in(t: &[u8], x: u8) -> usize
 }
 
 // A set bit: the byte that it is in, and its number among that byte's.
-#[derive(Drop)]
+#[derive(Clone, Copy)]
 struct BitInByte {
     byte: usize,
     number: usize,

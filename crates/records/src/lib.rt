@@ -107,7 +107,7 @@ pub fn four_in(x: usize, n: usize) -> usize
 }
 
 // A run of records: so many bits of a number, two to a record.
-#[derive(Drop)]
+#[derive(Clone, Copy)]
 pub struct Run {
     pub records: usize,
     pub bits: usize,
@@ -158,7 +158,7 @@ pub fn spread_at(t: &[u8], f: usize, x: usize) -> usize
 }
 
 // Of four flags: which say that the first, the second has it, and how many.
-#[derive(Drop)]
+#[derive(Clone, Copy)]
 pub struct Parts {
     pub firsts: usize,
     pub seconds: usize,

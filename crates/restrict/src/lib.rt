@@ -376,7 +376,7 @@ pub fn collect(q: &[u8], edged: &[u16], r: RecordIndex, out: &mut [u8]) -> usize
 // ---- Difference
 
 // The edge bits of a difference; where in the queue the members of the union are flagged, and how many.
-#[derive(Drop)]
+#[derive(Clone, Copy)]
 pub struct Remainder {
     pub edges: usize,
     pub flags: RecordIndex,

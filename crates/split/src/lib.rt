@@ -18,7 +18,7 @@ use join::Pair;
 use loes::refusal;
 
 // The lengths of the three encodings, or the refusal.
-#[derive(Drop)]
+#[derive(Clone, Copy)]
 pub enum AllWritten {
     Refused(u8),
     Lengths(Three),

@@ -158,7 +158,7 @@ fn clear(list: &mut [i32])
 
 // ---- Post
 // Whether it was posted.
-#[derive(Drop)]
+#[derive(Clone, Copy)]
 pub enum Posting {
     Refused(u8),
     Posted,

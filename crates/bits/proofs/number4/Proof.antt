@@ -7,16 +7,16 @@ use Rattle.bits.proofs.number4.Tie as tie
 number2-requires : tie.Need-number2-requires
 number2-requires c κs = search rules
 
-mul-result : tie.Need-overflow-mul-result
+mul-result : tie.Need-overflow_mul-result
 mul-result c = search rules
 
-add-number2 : tie.Need-overflow-add-number2
+add-number2 : tie.Need-overflow_add-at
 add-number2 c = search rules
 
 number2-requires-2 : tie.Need-number2-requires-2
 number2-requires-2 c κs = search rules
 
-add-result : tie.Need-overflow-add-result
+add-result : tie.Need-overflow_add-result
 add-result c = search rules
 
 returns : tie.Need-returns
@@ -25,7 +25,7 @@ returns c =
     let n = halves 2 s.args.l.now s.args.at s.requires in
     (omega (arith, n), omega arith)
 
-pub number4-spec : {M : Type 1} → statement M
-number4-spec =
+pub number4_spec : {M : Type 1} → statement M
+number4_spec =
     tie.close
     (tie.spec number2-requires mul-result add-number2 number2-requires-2 add-result returns)

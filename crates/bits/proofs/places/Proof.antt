@@ -9,5 +9,5 @@ returns : tie.Need-returns
 unfolding tabulate odd bits8 select digit
 returns c = rows _ refl refl
 
-pub places-spec : {M : Type 1} → statement M
-places-spec = tie.close (tie.spec returns)
+pub places_spec : {M : Type 1} → statement M
+places_spec = tie.close (tie.spec returns)

@@ -7,18 +7,18 @@ use borrow.Author.Rules.{rules}
 use Rattle.bits.proofs.started_by.Statement.{statement}
 use Rattle.bits.proofs.started_by.Tie as tie
 
-sub-result : tie.Need-overflow-sub-result
+sub-result : tie.Need-overflow_sub-result
 sub-result c = search rules
 
-add-result : tie.Need-overflow-add-result
+add-result : tie.Need-overflow_add-result
 add-result c = search rules
 
-div-result : tie.Need-nonzero-div-result
+div-result : tie.Need-nonzero_div-result
 div-result c = search rules
 
 returns : tie.Need-returns
 unfolding started
 returns c = (refl, omega (arith, div-le_self (c.args.n + (c.args.size - 1)) c.args.size))
 
-pub started-by-spec : {M : Type 1} → statement M
-started-by-spec = tie.close (tie.spec sub-result add-result div-result returns)
+pub started_by_spec : {M : Type 1} → statement M
+started_by_spec = tie.close (tie.spec sub-result add-result div-result returns)

@@ -9,5 +9,5 @@ returns : tie.Need-returns
 unfolding tabulate odd ones bits8
 returns c = computed tally_of 256
 
-pub tallies-spec : {M : Type 1} → statement M
-tallies-spec = tie.close (tie.spec returns)
+pub tallies_spec : {M : Type 1} → statement M
+tallies_spec = tie.close (tie.spec returns)
