@@ -1,4 +1,6 @@
 // Bytes and bits: the three counts, bits, numbers and words in bytes, and the constant tables.
+#![tactic(auto)]
+
 ghost use Rattle.std.specs.Prelude.{◌+◌, ◌-◌, ◌*◌, ◌/◌, ◌^◌, ◌<◌, ◌≤◌, ◌≡◌, length, drop};
 ghost use Rattle.loes.specs.Limits.{max_width, max_edges, sub_block_bits, sub_block_size};
 ghost use Rattle.loes.specs.Bytes.{started, bit_at, bits_in, number_at};

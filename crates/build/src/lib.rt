@@ -1,4 +1,6 @@
 // The one writer: an encoding from its edge bytes, each field in the rest of the buffer behind the field before it.
+#![tactic(auto)]
+
 ghost use Rattle.std.specs.Prelude.{ℕ, ◌+◌, ◌-◌, ◌*◌, ◌/◌, ◌%◌, ◌^◌, ◌<◌, ◌≤◌, ◌≡◌, [], ◌∷◌, ◌++◌, length, get_or, take, drop, ltb};
 ghost use Rattle.loes.specs.Limits.{max_width, max_edges, block_bits, sub_block_bits, length_bytes, head_bytes, width_bytes, count_bytes, level_entry, block_entry, sub_block_entry};
 ghost use Rattle.loes.specs.Bytes.{big_endian, big_endians, started, bits_in, front};

@@ -1,4 +1,6 @@
 // The C interface: numbers and byte strings in, small structs out. The target's uint64_t and size_t are usize.
+#![tactic(auto)]
+
 ghost use Rattle.std.specs.Prelude.{ℕ, ◌≤◌, ◌≡◌, true, List, [], ◌∷◌};
 ghost use Rattle.loes.specs.Limits.{max_width};
 ghost use Rattle.loes.specs.Bytes.{Bytes};

@@ -1,4 +1,6 @@
 // A cursor over an encoding's members, and the step that moves it on.
+#![tactic(auto)]
+
 ghost use Rattle.std.specs.Prelude.{ℕ, ◌+◌, ◌-◌, ◌*◌, ◌/◌, ◌<◌, ◌≤◌, ◌≡◌, true, false, [], length, get_or, drop, replicate};
 ghost use Rattle.loes.specs.Limits.{max_width};
 ghost use Rattle.loes.specs.Bytes.{front};

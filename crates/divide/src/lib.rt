@@ -1,4 +1,6 @@
 // The edges of two sets divided in three: one merge, and the marks of the three parts made in one pass over it.
+#![tactic(auto)]
+
 ghost use Rattle.std.specs.Prelude.{◌+◌, ◌-◌, ◌*◌, ◌/◌, ◌%◌, ◌<◌, ◌≤◌, ◌≡◌, length, get_or};
 ghost use Rattle.loes.specs.Limits.{max_edges};
 ghost use Rattle.loes.specs.Held.{entry_held, Holds};

@@ -1,4 +1,6 @@
 // An opened encoding: reading the fields, the full check, and rank behind it.
+#![tactic(auto)]
+
 ghost use Rattle.std.specs.Prelude.{ℕ, ◌+◌, ◌-◌, ◌*◌, ◌/◌, ◌%◌, ◌^◌, ◌<◌, ◌≤◌, min, ◌≡◌, false, length, drop, get_or};
 ghost use Rattle.loes.specs.Limits.{max_width, max_edges, sub_block_bits, sub_blocks, sub_block_size};
 ghost use Rattle.loes.specs.Bytes.{same_numbers};

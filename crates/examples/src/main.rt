@@ -1,4 +1,6 @@
 // Runs a script of calls by the compiled library: copies each line, and writes what its call answers in a line below.
+#![tactic(auto)]
+
 ghost use Rattle.std.specs.Prelude.{◌<◌, ◌≤◌, ◌≡◌, length};
 
 use bits::{EdgeOffset, MemberIndex};

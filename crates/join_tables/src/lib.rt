@@ -1,4 +1,6 @@
 // The tables that joins use: filled into local memory, once for a call.
+#![tactic(auto)]
+
 ghost use Rattle.std.specs.Prelude.{◌≡◌, ◌+◌, ◌*◌, ◌<◌, ◌≤◌, length, get_or};
 ghost use Rattle.records.specs.Tables.{spread_entries, part_entries, run_entries, edged_entries, Spreads, Parted, Runs, Edged};
 ghost use Rattle.join_tables.specs.Entries.{FilledFrom, spread_in, spread_code, part_code, run_code};

@@ -1,4 +1,6 @@
 // The edge bytes of a union: two edge sequences merged level by level, eight records at a time, in the place of the queue of flags.
+#![tactic(auto)]
+
 ghost use Rattle.std.specs.Prelude.{◌+◌, ◌-◌, ◌*◌, ◌/◌, ◌%◌, ◌<◌, ◌≤◌, ◌≡◌, true, map, length, ltb};
 ghost use Rattle.loes.specs.Limits.{max_edges};
 ghost use Rattle.loes.specs.Bytes.{odd, bit};

@@ -1,4 +1,6 @@
 // The members under a prefix: how many come before them, and how many they are. No member is visited.
+#![tactic(auto)]
+
 ghost use Rattle.std.specs.Prelude.{◌-◌, ◌*◌, ◌<◌, ◌≤◌, ◌≡◌, length};
 ghost use Rattle.loes.specs.Bytes.{bits_in};
 ghost use Rattle.loes.specs.Entry.{edges_of};

@@ -1,4 +1,6 @@
 // Prints an encoding: a line of its numbers, then a line for each member, its index and its key's bytes.
+#![tactic(auto)]
+
 ghost use Rattle.std.specs.Prelude.{◌+◌, ◌-◌, ◌<◌, ◌≤◌, ◌≡◌, [], ◌∷◌, length};
 ghost use Rattle.loes.specs.Entry.{count};
 ghost use Rattle.loes.specs.Read.{rejected, read, entry_in};

@@ -1,4 +1,6 @@
 // Questions to an encoding: one descent behind contains, index_of and lower_bound, one select behind key_at.
+#![tactic(auto)]
+
 ghost use Rattle.std.specs.Prelude.{◌+◌, ◌-◌, ◌*◌, ◌/◌, ◌<◌, ◌≤◌, ◌≡◌, true, false, ◌&&◌, not, ◌||◌, [], length, get_or, drop, eqb, leb, ltb};
 ghost use Rattle.loes.specs.Limits.{max_width, max_edges, max_bytes, block_bits, sub_block_bits};
 ghost use Rattle.loes.specs.Bytes.{bit, bits_in, byte_of, pack_bits, front};

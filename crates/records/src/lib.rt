@@ -1,4 +1,6 @@
 // Records in bytes: one at a time, in windows and runs of several, and looked up in tables.
+#![tactic(auto)]
+
 ghost use Rattle.std.specs.Prelude.{◌+◌, ◌*◌, ◌/◌, ◌%◌, ◌^◌, ◌<◌, ◌≤◌, ◌≡◌, ◌++◌, map, length, take, drop};
 ghost use Rattle.loes.specs.Limits.{max_edges};
 ghost use Rattle.loes.specs.Keys.{those};

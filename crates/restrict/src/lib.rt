@@ -1,4 +1,6 @@
 // The edge bytes of a subset: the edges that lead to no kept member are dropped, from the last to the first, then the empty records.
+#![tactic(auto)]
+
 ghost use Rattle.std.specs.Prelude.{ℕ, ◌+◌, ◌-◌, ◌*◌, ◌/◌, ◌%◌, ◌^◌, ◌<◌, ◌≤◌, ◌≡◌, true, ◌&&◌, cond, ◌++◌, map, length, get_or, ltb, eqb};
 ghost use Rattle.loes.specs.Limits.{max_edges};
 ghost use Rattle.loes.specs.Bytes.{odd, bit};

@@ -1,4 +1,6 @@
 // Prints the encoding on standard input.
+#![tactic(auto)]
+
 fn main() {
     printing::print_input();
 }

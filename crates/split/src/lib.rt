@@ -1,4 +1,6 @@
 // Two encodings split in three: the keys in both sets, in the first only, in the second only.
+#![tactic(auto)]
+
 ghost use Rattle.std.specs.Prelude.{◌+◌, ◌*◌, ◌/◌, ◌≤◌, ◌≡◌, ◌||◌, [], ◌∷◌, length, ltb};
 ghost use Rattle.loes.specs.Limits.{max_width, max_edges};
 ghost use Rattle.loes.specs.Read.{entry_in, end_of};

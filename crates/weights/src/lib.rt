@@ -1,4 +1,6 @@
 // Weights beside an encoding: a list of signed numbers of 32 bits, entry i for the member at index i.
+#![tactic(auto)]
+
 ghost use Rattle.std.specs.Prelude.{ℕ, ◌+◌, ◌*◌, ◌/◌, ◌≤◌, ◌<◌, ◌≡◌, [], ◌∷◌, true, false, ◌&&◌, ◌||◌, ◌+ℤ◌, length, get_or, ltb};
 ghost use Rattle.loes.specs.Limits.{max_width, max_edges};
 ghost use Rattle.loes.specs.Bytes.{odd, tabulate};

@@ -17,38 +17,38 @@ use borrow.Author.Rules.{rules}
 use Rattle.encoding.proofs.agrees.Statement.{statement}
 use Rattle.encoding.proofs.agrees.Tie as tie
 
-abbrev start : tie.After-whole-ones → tie.Start
+abbrev start : tie.After-whole_ones → tie.Start
 start c = c.before.before.before
 
-abbrev first : tie.After-n → tie.Start
+abbrev first : tie.In-Ones-2 → tie.Start
 first c = start c.before.before
 
-abbrev n-of : tie.After-k → tie.After-n
+abbrev n-of : tie.In-Ones-last_ones-2 → tie.In-Ones-2
 n-of c = c.before.before.before.before
 
-abbrev second : tie.After-k → tie.Start
+abbrev second : tie.In-Ones-last_ones-2 → tie.Start
 second c = first (n-of c)
 
 room : (c : tie.Start) → FieldsFit c.args.l.now c.args.e
 room c = fields_room c.args.l.now c.args.e c.requires.0
 
-bytes : (c : tie.After-whole-ones) → AllBytes (start c).args.l.now
-bytes c = bytes_all (start c).args.l.now (λ i. (c.before.before.shared-slice-known.given i).fits)
+bytes : (c : tie.After-whole_ones) → AllBytes (start c).args.l.now
+bytes c = bytes_all (start c).args.l.now (λ i. (c.before.before.shared_slice_known-1.given i).fits)
 
 wrong : (c : tie.Start) → let l = c.args.l.now in AllBytes l → (Right l c.args.e → ⊥) → false ≡ same_numbers l (encode (entry_in l))
 wrong c ok h = wrong_same c.args.l.now c.args.e c.requires.0 ok h
 
-whole : (c : tie.After-n) → let a = (first c).args in
-    WholeRight a.l.now a.e × (c.n.given.0.0 ≡ ones (bits_in (drop a.e.edges a.l.now) (8 * (a.e.bits / 8))))
-whole c = subst (Whole _ _) c.n.given.1 c.before.before.whole-ones.ensures
+whole : (c : tie.In-Ones-2) → let a = (first c).args in
+    WholeRight a.l.now a.e × (c.n-1.given.0.0 ≡ ones (bits_in (drop a.e.edges a.l.now) (8 * (a.e.bits / 8))))
+whole c = subst (Whole _ _) c.n-1.given.1 c.before.before.whole_ones.ensures
 
-last : (c : tie.After-k) → let a = (second c).args in
-    LastRight a.l.now a.e × (c.k.given.0.0 ≡ ones (bits_in (last_edges a.l.now a.e) (a.e.bits % 8)))
-last c = subst (Last _ _) c.k.given.1 c.before.before.last-ones.ensures
+last : (c : tie.In-Ones-last_ones-2) → let a = (second c).args in
+    LastRight a.l.now a.e × (c.k-1.given.0.0 ≡ ones (bits_in (last_edges a.l.now a.e) (a.e.bits % 8)))
+last c = subst (Last _ _) c.k-1.given.1 c.before.before.last_ones.ensures
 
 -- the numbers are small
-few : (c : tie.Else1) → let k = c.before.before.before in let a = (second k).args in
-    (a.e.count < 4294967296) × (a.e.bits ≤ 524280) × ((n-of k).n.given.0.0 ≤ 524287) × (k.k.given.0.0 ≤ 8)
+few : (c : tie.Else-not-levels_agree) → let k = c.before.before.before in let a = (second k).args in
+    (a.e.count < 4294967296) × (a.e.bits ≤ 524280) × ((n-of k).n-1.given.0.0 ≤ 524287) × (k.k-1.given.0.0 ≤ 8)
 few c =
     let k = c.before.before.before in
     let a = (second k).args in
@@ -59,70 +59,70 @@ few c =
       omega (arith, (last k).1, ones_bits_le (last_edges a.l.now a.e) (a.e.bits % 8)),
     )
 
-whole-ones-requires : tie.Need-whole-ones-requires
+whole-ones-requires : tie.Need-whole_ones-requires
 whole-ones-requires c κs = room c.before.before
 
-enum-known-n : tie.Need-enum-known-n
+enum-known-n : tie.Need-enum_known-n
 enum-known-n c = search rules
 
-enum_told : tie.Need-enum-told
+enum_told : tie.Need-enum_told-1
 enum_told c = search rules
 
-returns : tie.Need-returns
+returns : tie.Need-returns-in_default
 returns c =
     let w = c.before.before in
-    wrong (start w) (bytes w) (λ r. subst (Whole _ _) c.enum_told.given.1 w.whole-ones.ensures (whole_of _ _ (start w).requires.0 r))
+    wrong (start w) (bytes w) (λ r. subst (Whole _ _) c.enum_told-1.given.1 w.whole_ones.ensures (whole_of _ _ (start w).requires.0 r))
 
-last-ones-requires : tie.Need-last-ones-requires
+last-ones-requires : tie.Need-last_ones-requires
 last-ones-requires c κs = room (first c.before)
 
-enum-known-k : tie.Need-enum-known-k
+enum-known-k : tie.Need-enum_known-k
 enum-known-k c = search rules
 
-enum-told-2 : tie.Need-enum-told-2
+enum-told-2 : tie.Need-enum_told-in_default-last_ones
 enum-told-2 c = search rules
 
-returns-2 : tie.Need-returns-2
+returns-2 : tie.Need-returns-in_default-last_ones
 returns-2 c =
     let t = c.before.before in
     let s = first t.before.before in
-    wrong s (bytes t.before.before.before.before) (λ r. subst (Last _ _) c.enum-told2.given.1 t.last-ones.ensures (last_of _ _ s.pre.0 r))
+    wrong s (bytes t.before.before.before.before) (λ r. subst (Last _ _) c.enum_told-in_default-last_ones-1.given.1 t.last_ones.ensures (last_of _ _ s.requires.0 r))
 
-levels-agree-requires : tie.Need-levels-agree-requires
-levels-agree-requires c κs = let s = second c.before in (room s, (whole (n-of c.before)).0.0, s.pre.1)
+levels-agree-requires : tie.Need-levels_agree-requires
+levels-agree-requires c κs = let s = second c.before in (room s, (whole (n-of c.before)).0.0, s.requires.1)
 
-returns-3 : tie.Need-returns-3
+returns-3 : tie.Need-returns-then-not-levels_agree
 returns-3 c =
     let t = c.before in
     let k = t.before.before in
-    wrong (second k) (bytes (n-of k).before.before) (λ r. false≢true (sym (ap not (t.levels-agree.ensures.1 r.levels)) ∙ c.if1.true))
+    wrong (second k) (bytes (n-of k).before.before) (λ r. false≢true (sym (ap not (t.levels_agree.ensures.1 r.levels)) ∙ c.if-not-levels_agree.true))
 
-add-result : tie.Need-overflow-add-result
+add-result : tie.Need-overflow_add-result
 add-result c = omega (arith, few c.before.before)
 
-roots-of-requires : tie.Need-roots-of-requires
+roots-of-requires : tie.Need-roots_of-requires
 roots-of-requires c κs = search rules
 
-add-result-2 : tie.Need-overflow-add-result-2
+add-result-2 : tie.Need-overflow_add-result-2
 add-result-2 c = omega (arith, few c.before.before.before)
 
-add-result-3 : tie.Need-overflow-add-result-3
+add-result-3 : tie.Need-overflow_add-result-3
 add-result-3 c = omega (arith, few c.before.before.before)
 
-returns-4 : tie.Need-returns-4
+returns-4 : tie.Need-returns
 returns-4 c =
     let t = c.before.before.before.before in
     let k = t.before.before in
     let s = second k in
     let w = whole (n-of k) in
     let v = last k in
-    let q = count_of s.args.l.now s.args.e s.pre.0 _ _ w.1 v.1 in
-    rw c.roots-of.ensures.0
-    (same_by s.args.l.now s.args.e s.pre.0 (bytes (n-of k).before.before) _ _
-    (λ z. right_of _ _ s.pre.0 w.0 v.0 (t.levels-agree.ensures.0 (not_false t.levels-agree.result c.before.before.before.if1.false)) (q.0 z)) (λ r. q.1 r.count))
+    let q = count_of s.args.l.now s.args.e s.requires.0 _ _ w.1 v.1 in
+    rw c.roots_of.ensures.0
+    (same_by s.args.l.now s.args.e s.requires.0 (bytes (n-of k).before.before) _ _
+    (λ z. right_of _ _ s.requires.0 w.0 v.0 (t.levels_agree.ensures.0 (not_false t.levels_agree.result c.before.before.before.if-not-levels_agree.false)) (q.0 z)) (λ r. q.1 r.count))
 
-pub agrees-spec : {M : Type 1} → statement M
-agrees-spec =
+pub agrees_spec : {M : Type 1} → statement M
+agrees_spec =
     tie.close
     (tie.spec
     whole-ones-requires

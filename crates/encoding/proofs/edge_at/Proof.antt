@@ -14,13 +14,13 @@ inside c =
     let r = opens_room a.l.now a.e c.requires.0 in
     ((room_at a.l.now a.e a.o.0 r c.requires.1).0, r.bytes)
 
-mul-bit-at : tie.Need-overflow-mul-bit-at
+mul-bit-at : tie.Need-overflow_mul-e
 mul-bit-at c = omega (arith, inside c.before.before)
 
-add-bit-at : tie.Need-overflow-add-bit-at
+add-bit-at : tie.Need-overflow_add-e
 add-bit-at c = omega (arith, inside c.before.before.before)
 
-bit-at-requires : tie.Need-bit-at-requires
+bit-at-requires : tie.Need-bit_at-requires
 bit-at-requires c κs = omega (arith, inside c.before.before.before)
 
 returns : tie.Need-returns
@@ -29,5 +29,5 @@ returns c =
     let a = s.args in
     c.bit_at.ensures ∙ bit_from a.l.now a.e.edges a.o.0 ∙ opens_edge a.l.now a.e s.requires.0 a.o.0 s.requires.1
 
-pub edge-at-spec : {M : Type 1} → statement M
-edge-at-spec = tie.close (tie.spec mul-bit-at add-bit-at bit-at-requires returns)
+pub edge_at_spec : {M : Type 1} → statement M
+edge_at_spec = tie.close (tie.spec mul-bit-at add-bit-at bit-at-requires returns)

@@ -8,77 +8,77 @@ use borrow.Author.Rules.{rules}
 use Rattle.encoding.proofs.last_ones.Statement.{statement}
 use Rattle.encoding.proofs.last_ones.Tie as tie
 
-abbrev start : tie.After-shared-slice-known2 → tie.Start
+abbrev start : tie.After-shared_slice_known-2-1 → tie.Start
 start c = c.before.before.before.before.before.before
 
-abbrev byte : tie.After-shared-slice-known2 → ℕ
+abbrev byte : tie.After-shared_slice_known-2-1 → ℕ
 byte c = let a = (start c).args in last_byte a.l.now a.e
 
-abbrev used : tie.After-shared-slice-known2 → ℕ
+abbrev used : tie.After-shared_slice_known-2-1 → ℕ
 used c = (start c).args.e.bits % 8
 
-positive : (c : tie.After-shared-slice-known2) → 0 < used c
+positive : (c : tie.After-shared_slice_known-2-1) → 0 < used c
 positive c = omega arith
 
-inside : (c : tie.After-shared-slice-known2) → let a = (start c).args in a.e.edges + a.e.bits / 8 < length a.l.now
+inside : (c : tie.After-shared_slice_known-2-1) → let a = (start c).args in a.e.edges + a.e.bits / 8 < length a.l.now
 unfolding started
 inside c = omega (arith, (start c).requires.edges, positive c)
 
-small : (c : tie.After-shared-slice-known2) → byte c < 256
-small c = let a = (start c).args in omega (arith, c.shared-slice-known2.given (a.e.edges + a.e.bits / 8))
+small : (c : tie.After-shared_slice_known-2-1) → byte c < 256
+small c = let a = (start c).args in omega (arith, c.shared_slice_known-2-1.given (a.e.edges + a.e.bits / 8))
 
-few : (c : tie.After-shared-slice-known2) → Count.ones (byte c) ≤ 8
+few : (c : tie.After-shared_slice_known-2-1) → Count.ones (byte c) ≤ 8
 few c = Count.ones_le 8 (byte c) (small c)
 
-returns : tie.Need-returns
-returns c = let a = c.before.before.before.args in last_none a.l.now a.e c.if1.true
+returns : tie.Need-returns-then-used-eq0
+returns c = let a = c.before.before.before.args in last_none a.l.now a.e c.if-used-eq0.true
 
-add_at : tie.Need-overflow-add-at
+add_at : tie.Need-overflow_add-at
 add_at c = search rules
 
-shared-slice-read-x : tie.Need-shared-slice-read-x
+shared-slice-read-x : tie.Need-bounds-l-at
 shared-slice-read-x c = inside c
 
-cast-x : tie.Need-overflow-cast-x
+cast-x : tie.Need-overflow_cast-x
 cast-x c = omega (arith, small c)
 
-lowest-requires : tie.Need-lowest-requires
+lowest-requires : tie.Need-lowest-unit-requires
 lowest-requires c κs = search rules
 
-rem-if2 : tie.Need-nonzero-rem-if2
+rem-if2 : tie.Need-nonzero_rem-x
 rem-if2 c = search rules
 
-returns-2 : tie.Need-returns-2
+returns-2 : tie.Need-returns-then-x-unit-ne0
 returns-2 c =
     let d = c.before.before in
     let a = (start d).args in
-    last_set a.l.now a.e (positive d) (λ z. c.if2.true (rw (← c.before.lowest.ensures.0) at z))
+    last_set a.l.now a.e (positive d) (λ z. c.if-x-unit-ne0.true (rw (← c.before.lowest-unit.ensures.0) at z))
 
-sub-y : tie.Need-overflow-sub-y
+sub-y : tie.Need-overflow_sub-y
 sub-y c = search rules
 
-add-y : tie.Need-overflow-add-y
+add-y : tie.Need-overflow_add-y
 add-y c = omega (arith, small c.before.before)
 
-returns-3 : tie.Need-returns-3
+returns-3 : tie.Need-returns-then-y-ne-BYTE_RECORDS
 returns-3 c =
     let k = c.before.before in
     let d = k.before in
     let a = (start d).args in
-    last_empty a.l.now a.e k.lowest.result k.lowest.ensures.0 (small d) c.before.if2.false c.if3.true
+    last_empty a.l.now a.e k.lowest-unit.result k.lowest-unit.ensures.0 (small d) c.before.if-x-unit-ne0.false c.if-y-ne-BYTE_RECORDS.true
 
-cast-n : tie.Need-overflow-cast-n
+cast-n : tie.Need-overflow_cast-n
 cast-n c = omega (arith, few c.before.before.before)
 
-returns-4 : tie.Need-returns-4
+returns-4 : tie.Need-returns
 returns-4 c =
     let k = c.before.before in
     let d = k.before in
     let a = (start d).args in
-    last_full a.l.now a.e k.lowest.result k.lowest.ensures.0 (small d) c.before.if2.false c.if3.false
+    last_full a.l.now a.e k.lowest-unit.result k.lowest-unit.ensures.0 (small d) c.before.if-x-unit-ne0.false c.if-y-ne-BYTE_RECORDS.false
 
-pub last-ones-spec : {M : Type 1} → statement M
-last-ones-spec =
+pub last_ones_spec : {M : Type 1} → statement M
+last_ones_spec =
     tie.close
     (tie.spec
     returns

@@ -13,10 +13,10 @@ inside c =
     let r = opens_room c.args.l.now c.args.e c.requires.0 in
     (omega (arith, r.levels, c.requires.1), r.bytes)
 
-mul-number4 : tie.Need-overflow-mul-number4
+mul-number4 : tie.Need-overflow_mul-d
 mul-number4 c = omega (arith, inside c.before)
 
-add-number4 : tie.Need-overflow-add-number4
+add-number4 : tie.Need-overflow_add-d
 add-number4 c = omega (arith, inside c.before)
 
 number4-requires : tie.Need-number4-requires
@@ -25,5 +25,5 @@ number4-requires c κs = omega (arith, inside c.before)
 returns : tie.Need-returns
 returns c = let s = c.before.before in c.number4.ensures.0 ∙ opens_levels s.args.l.now s.args.e s.requires.0 s.args.d s.requires.1
 
-pub level-end-spec : {M : Type 1} → statement M
-level-end-spec = tie.close (tie.spec mul-number4 add-number4 number4-requires returns)
+pub level_end_spec : {M : Type 1} → statement M
+level_end_spec = tie.close (tie.spec mul-number4 add-number4 number4-requires returns)

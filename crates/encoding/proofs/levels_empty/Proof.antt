@@ -7,46 +7,46 @@ use Rattle.encoding.proofs.Pass.{below_next}
 use Rattle.encoding.proofs.levels_empty.Statement.{statement}
 use Rattle.encoding.proofs.levels_empty.Tie as tie
 
-abbrev invariant-loop : tie.invariant-loop
+abbrev invariant-loop : tie.invariant-loop-d
 invariant-loop l width d₀ d = (i : ℕ) → i < d → level_at l i ≡ 0
 
-abbrev decreases-loop : tie.decreases-loop
+abbrev decreases-loop : tie.decreases-loop-d
 decreases-loop l width d₀ d = width - d
 
-loop-holds : tie.Need-loop-init invariant-loop decreases-loop
+loop-holds : tie.Need-loop-d-init invariant-loop decreases-loop
 loop-holds c = λ i h. absurd (omega arith)
 
-mul-number4 : tie.Need-overflow-mul-number4 invariant-loop decreases-loop
+mul-number4 : tie.Need-overflow_mul-d invariant-loop decreases-loop
 mul-number4 c = omega arith
 
-add-number4 : tie.Need-overflow-add-number4 invariant-loop decreases-loop
+add-number4 : tie.Need-overflow_add-d invariant-loop decreases-loop
 add-number4 c = omega arith
 
 number4-requires : tie.Need-number4-requires invariant-loop decreases-loop
 number4-requires c κs = omega arith
 
-returns : tie.Need-returns invariant-loop decreases-loop
+returns : tie.Need-returns-then-number4-ne0 invariant-loop decreases-loop
 returns c =
     let d = c.before.before in
-    (λ z. absurd (false≢true z), λ p. absurd (c.if1.true (c.before.number4.ensures.0 ∙ p d.before.loop.d d.loop-test.true)))
+    (λ z. absurd (false≢true z), λ p. absurd (c.if-number4-ne0.true (c.before.number4.ensures.0 ∙ p d.before.loop-d.d d.loop-d-test.true)))
 
-add-d : tie.Need-overflow-add-d invariant-loop decreases-loop
+add-d : tie.Need-overflow_add-d-in-loop-d invariant-loop decreases-loop
 add-d c = omega arith
 
-loop-less : tie.Need-loop-smaller invariant-loop decreases-loop
+loop-less : tie.Need-loop-d-smaller invariant-loop decreases-loop
 loop-less c = omega arith
 
-loop-again : tie.Need-loop-preserved invariant-loop decreases-loop
+loop-again : tie.Need-loop-d-preserved invariant-loop decreases-loop
 loop-again c =
     let n = c.before.number4 in
-    let h = c.before.before.before.loop in
+    let h = c.before.before.before.loop-d in
     let l = c.before.before.before.before.before.args.l.now in
-    below_next (λ i. level_at l i ≡ 0) h.d h.invariant (sym n.ensures.0 ∙ c.if1.false)
+    below_next (λ i. level_at l i ≡ 0) h.d h.invariant (sym n.ensures.0 ∙ c.if-number4-ne0.false)
 
-returns-2 : tie.Need-returns-2 invariant-loop decreases-loop
-returns-2 c = (λ z d h. c.before.loop.invariant d (omega arith), λ p. refl)
+returns-2 : tie.Need-returns invariant-loop decreases-loop
+returns-2 c = (λ z d h. c.before.loop-d.invariant d (omega arith), λ p. refl)
 
-pub levels-empty-spec : {M : Type 1} → statement M
-levels-empty-spec =
+pub levels_empty_spec : {M : Type 1} → statement M
+levels_empty_spec =
     tie.close
     (tie.spec invariant-loop decreases-loop loop-holds mul-number4 add-number4 number4-requires returns add-d loop-less loop-again returns-2)

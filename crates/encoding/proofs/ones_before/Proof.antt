@@ -4,7 +4,7 @@ use Rattle.encoding.proofs.Index.{block_fits, counting_ranks}
 use Rattle.encoding.proofs.ones_before.Statement.{statement}
 use Rattle.encoding.proofs.ones_before.Tie as tie
 
-indexed-ones-requires : tie.Need-indexed-ones-requires
+indexed-ones-requires : tie.Need-indexed_ones-requires
 indexed-ones-requires c κs =
     let s = c.before.before in
     let a = s.args in
@@ -15,7 +15,7 @@ returns : tie.Need-returns
 returns c =
     let s = c.before.before.before in
     let a = s.args in
-    c.indexed-ones.ensures ∙ counting_ranks a.l.now a.e s.requires.0 a.o.0 s.requires.2
+    c.indexed_ones.ensures ∙ counting_ranks a.l.now a.e s.requires.0 a.o.0 s.requires.2
 
-pub ones-before-spec : {M : Type 1} → statement M
-ones-before-spec = tie.close (tie.spec indexed-ones-requires returns)
+pub ones_before_spec : {M : Type 1} → statement M
+ones_before_spec = tie.close (tie.spec indexed-ones-requires returns)

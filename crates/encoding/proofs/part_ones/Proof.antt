@@ -17,7 +17,7 @@ use Rattle.encoding.proofs.part_ones.Statement.{statement}
 use Rattle.encoding.proofs.part_ones.Tie as tie
 
 -- the words, and what is left
-module _ (c : tie.After-scan-words) where
+module _ (c : tie.After-scan_words-p) where
   abbrev start : tie.Start
   start = c.before.before
 
@@ -25,7 +25,7 @@ module _ (c : tie.After-scan-words) where
   bytes = drop start.args.from start.args.l.now
 
   small : Small bytes
-  small = small_from start.args.l.now start.args.from (λ i. (c.before.shared-slice-known.given i).fits)
+  small = small_from start.args.l.now start.args.from (λ i. (c.before.shared_slice_known-1.given i).fits)
 
   abbrev size : ℕ
   size = start.args.upto - start.args.from
@@ -42,86 +42,86 @@ module _ (c : tie.After-scan-words) where
   whole : passed + left ≡ size
   whole = omega arith
 
-  abbrev scan : Scanned bytes passed c.scan-words.result.full c.scan-words.result.ones
-  scan = c.scan-words.ensures
+  abbrev scan : Scanned bytes passed c.scan_words-p.result.full c.scan_words-p.result.ones
+  scan = c.scan_words-p.ensures
 
   parts : none_empty (bits_in bytes (8 * size)) ≡ true → none_empty (bits_in bytes (8 * (passed + left))) ≡ true
   parts e = rw whole e
 
-module _ (c : tie.After-part-word) where
-  abbrev words : tie.After-scan-words
+module _ (c : tie.After-part_word-x) where
+  abbrev words : tie.After-scan_words-p
   words = c.before.before.before
 
   -- what the words do not have, as one
-  last-is : c.part-word.result ≡ word_in (drop (passed words) (bytes words)) (left words)
+  last-is : c.part_word-x.result ≡ word_in (drop (passed words) (bytes words)) (left words)
   last-is =
       let a = (start words).args in
       let z : a.upto - left words ≡ a.from + passed words = omega (arith, whole words) in
-      c.part-word.ensures
+      c.part_word-x.ensures
       ∙ ap (λ y. word_in y (left words)) (ap (λ i. drop i a.l.now) z ∙ sym (drop-drop (passed words) a.from a.l.now))
 
-  few : (Count.ones c.part-word.result ≤ 64) × (words.scan-words.result.ones ≤ 512)
+  few : (Count.ones c.part_word-x.result ≤ 64) × (words.scan_words-p.result.ones ≤ 512)
   few =
       let b = bytes words in (
         omega (arith, ap Count.ones last-is, word_ones_le (drop (passed words) b) (left words) (small_from b (passed words) (small words))),
         omega (arith, (scan words).count, ones_bits_le b (8 * passed words)),
       )
 
-sub-size : tie.Need-overflow-sub-size
+sub-size : tie.Need-overflow_sub-size
 sub-size c = search rules
 
-scan-words-requires : tie.Need-scan-words-requires
+scan-words-requires : tie.Need-scan_words-p-requires
 scan-words-requires c κs = (omega arith, omega arith)
 
-returns : tie.Need-returns
+returns : tie.Need-returns-then-p-ne-RECORDS
 unfolding mask
 returns c =
     let d = c.before.before in
-    λ e. c.if1.true (full_front (bytes d) (passed d) d.scan-words.result.full d.scan-words.result.ones (left d) (scan d) (parts d e))
+    λ e. c.if-p-ne-RECORDS.true (full_front (bytes d) (passed d) d.scan_words-p.result.full d.scan_words-p.result.ones (left d) (scan d) (parts d e))
 
-sub-part-word : tie.Need-overflow-sub-part-word
+sub-part-word : tie.Need-overflow_sub-upto
 sub-part-word c = omega arith
 
-part-word-requires : tie.Need-part-word-requires
+part-word-requires : tie.Need-part_word-x-requires
 part-word-requires c κs = (omega arith, omega arith, omega arith)
 
-mul-if2 : tie.Need-overflow-mul-if2
+mul-if2 : tie.Need-overflow_mul-k
 mul-if2 c = omega arith
 
-shl-if2 : tie.Need-overflow-shl-if2
+shl-if2 : tie.Need-overflow_shl-k
 shl-if2 c = omega arith
 
-rem-if2 : tie.Need-nonzero-rem-if2
+rem-if2 : tie.Need-nonzero_rem-k-2
 rem-if2 c = unit_pos (left (words c)) (left_lt (words c))
 
-returns-2 : tie.Need-returns-2
+returns-2 : tie.Need-returns-then-x-k
 unfolding mask
 returns-2 c =
     let f = c.before in
     let d = words f in
-    λ e. c.if2.true (subst (λ x. bit_and (mask 8) (bit_or x (x / 2)) ≡ mask 8 % (1 * 2 ^ (8 * left d) % 2 ^ 64)) (sym (last-is f))
-    (full_part (bytes d) (passed d) d.scan-words.result.full d.scan-words.result.ones (left d) (left_lt d) (small d) (scan d) (parts d e)))
+    λ e. c.if-x-k.true (subst (λ x. bit_and (mask 8) (bit_or x (x / 2)) ≡ mask 8 % (1 * 2 ^ (8 * left d) % 2 ^ 64)) (sym (last-is f))
+    (full_part (bytes d) (passed d) d.scan_words-p.result.full d.scan_words-p.result.ones (left d) (left_lt d) (small d) (scan d) (parts d e)))
 
-cast-n : tie.Need-overflow-cast-n
+cast-n : tie.Need-overflow_cast-n
 cast-n c = omega (arith, (few c.before).0)
 
-add-n : tie.Need-overflow-add-n
+add-n : tie.Need-overflow_add-n
 add-n c = omega (arith, few c.before.before)
 
-returns-3 : tie.Need-returns-3
+returns-3 : tie.Need-returns
 unfolding mask
 returns-3 c =
     let f = c.before.before in
     let d = words f in
     let b = bytes d in
-    let r = d.scan-words.result in
-    let e = subst (λ x. bit_and (mask 8) (bit_or x (x / 2)) ≡ mask 8 % (1 * 2 ^ (8 * left d) % 2 ^ 64)) (last-is f) c.before.if2.false in (
-      rw (whole d) at (part_full b (passed d) r.full r.ones (left d) (left_lt d) (small d) (scan d) f.before.if1.false e),
+    let r = d.scan_words-p.result in
+    let e = subst (λ x. bit_and (mask 8) (bit_or x (x / 2)) ≡ mask 8 % (1 * 2 ^ (8 * left d) % 2 ^ 64)) (last-is f) c.before.if-x-k.false in (
+      rw (whole d) at (part_full b (passed d) r.full r.ones (left d) (left_lt d) (small d) (scan d) f.before.if-p-ne-RECORDS.false e),
       ap (λ x. r.ones + Count.ones x) (last-is f) ∙ part_count b (passed d) r.full r.ones (left d) (left_lt d) (small d) (scan d) ∙ ap (λ m. ones (bits_in b (8 * m))) (whole d),
     )
 
-pub part-ones-spec : {M : Type 1} → statement M
-part-ones-spec =
+pub part_ones_spec : {M : Type 1} → statement M
+part_ones_spec =
     tie.close
     (tie.spec
     sub-size

@@ -5,35 +5,35 @@ use borrow.Author.Rules.{rules}
 use Rattle.encoding.proofs.rank.Statement.{statement}
 use Rattle.encoding.proofs.rank.Tie as tie
 
-tallies-requires : tie.Need-tallies-requires
+tallies-requires : tie.Need-tallies-t-requires
 tallies-requires c κs = search rules
 
-slice-aggregate-check : tie.Need-slice-aggregate-check
+slice-aggregate-check : tie.Need-slice_bounds-check-end
 slice-aggregate-check c = search rules
 
 check-requires : tie.Need-check-requires
 check-requires c κs = search rules
 
-enum-known-k : tie.Need-enum-known-k
+enum-known-k : tie.Need-enum_known-k
 enum-known-k c = search rules
 
-enum-known-e : tie.Need-enum-known-e
+enum-known-e : tie.Need-enum_known-e
 enum-known-e c = search rules
 
-slice-aggregate-rank-in : tie.Need-slice-aggregate-rank-in
+slice-aggregate-rank-in : tie.Need-slice_bounds-rank_in-end
 slice-aggregate-rank-in c = search rules
 
-rank-in-requires : tie.Need-rank-in-requires
-rank-in-requires c κs = (subst (Checks _) c.before.before.e.given.1 c.before.before.before.before.check.ensures, c.before.before.before.before.before.before.tallies.ensures)
+rank-in-requires : tie.Need-rank_in-requires
+rank-in-requires c κs = (subst (Checks _) c.before.before.e-1.given.1 c.before.before.before.before.check.ensures, c.before.before.before.before.before.before.tallies-t.ensures)
 
-returns : tie.Need-returns
-returns c = rank_refused _ _ _ (subst (Checks _) c.before.k.given.1 c.before.before.before.check.ensures)
+returns : tie.Need-returns-in-Refused
+returns c = rank_refused _ _ _ (subst (Checks _) c.before.k-1.given.1 c.before.before.before.check.ensures)
 
-returns-2 : tie.Need-returns-2
+returns-2 : tie.Need-returns-in-Opened
 returns-2 c = search rules
 
-pub rank-spec : {M : Type 1} → statement M
-rank-spec =
+pub rank_spec : {M : Type 1} → statement M
+rank_spec =
     tie.close
     (tie.spec
     tallies-requires

@@ -4,22 +4,22 @@ use borrow.Author.Rules.{rules}
 use Rattle.records.proofs.kept_in.Statement.{statement}
 use Rattle.records.proofs.kept_in.Tie as tie
 
-mul-h : tie.Need-overflow-mul-h
+mul-h : tie.Need-offset_bounds-t-x
 mul-h c = search rules
 
-shared-slice-read-h : tie.Need-shared-slice-read-h
+shared-slice-read-h : tie.Need-bounds-t-x
 shared-slice-read-h c = search rules
 
-cast-h : tie.Need-overflow-cast-h
-cast-h c = omega (arith, c.shared-slice-known.given c.before.args.x)
+cast-h : tie.Need-overflow_cast-h
+cast-h c = omega (arith, c.shared_slice_known-1.given c.before.args.x)
 
-mul-result : tie.Need-overflow-mul-result
+mul-result : tie.Need-overflow_mul-result
 mul-result c = search rules
 
-add-result : tie.Need-overflow-add-result
+add-result : tie.Need-overflow_add-result
 add-result c = search rules
 
-shr-result : tie.Need-overflow-shr-result
+shr-result : tie.Need-overflow_shr-result
 shr-result c = search rules
 
 returns : tie.Need-returns
@@ -27,6 +27,6 @@ returns c =
     let s = c.before in
     (kept_told s.requires.0 s.args.x s.requires.1 s.args.w s.requires.2, omega arith)
 
-pub kept-in-spec : {M : Type 1} → statement M
-kept-in-spec =
+pub kept_in_spec : {M : Type 1} → statement M
+kept_in_spec =
     tie.close (tie.spec mul-h shared-slice-read-h cast-h mul-result add-result shr-result returns)

@@ -9,14 +9,14 @@ use Rattle.records.proofs.parts_at.Tie as tie
 wide-requires : tie.Need-wide-requires
 wide-requires c κs = search rules
 
-mul-h : tie.Need-overflow-mul-h
+mul-h : tie.Need-offset_bounds-t-wide
 mul-h c = search rules
 
-shared-slice-read-h : tie.Need-shared-slice-read-h
+shared-slice-read-h : tie.Need-bounds-t-wide
 shared-slice-read-h c = search rules
 
-cast-h : tie.Need-overflow-cast-h
-cast-h c = omega (arith, c.shared-slice-known2.given c.before.wide.result)
+cast-h : tie.Need-overflow_cast-h
+cast-h c = omega (arith, c.shared_slice_known-2-1.given c.before.wide.result)
 
 returns : tie.Need-returns
 returns c =
@@ -26,5 +26,5 @@ returns c =
     let h : s.args.x < 256 = omega (arith, w.wide.ensures) in
     rw e ((firsts_told s.requires s.args.x h, omega arith), ((seconds_told s.requires s.args.x h, omega arith), (first_told s.requires s.args.x h, second_told s.requires s.args.x h)))
 
-pub parts-at-spec : {M : Type 1} → statement M
-parts-at-spec = tie.close (tie.spec wide-requires mul-h shared-slice-read-h cast-h returns)
+pub parts_at_spec : {M : Type 1} → statement M
+parts_at_spec = tie.close (tie.spec wide-requires mul-h shared-slice-read-h cast-h returns)

@@ -6,17 +6,17 @@ use Rattle.records.proofs.window.Tie as tie
 block-requires : tie.Need-block-requires
 block-requires c κs = search rules
 
-mul-result : tie.Need-overflow-mul-result
+mul-result : tie.Need-overflow_mul-result
 mul-result c = search rules
 
-add-result : tie.Need-overflow-add-result
+add-result : tie.Need-overflow_add-result
 add-result c = search rules
 
-shl-result : tie.Need-overflow-shl-result
+shl-result : tie.Need-overflow_shl-result
 shl-result c = search rules
 
 returns : tie.Need-returns
 returns c = let s = c.before.before.before.before in window_ok s.args.l.now s.args.i.0 c.before.block.result c.before.block.ensures.0
 
-pub window-spec : {M : Type 1} → statement M
-window-spec = tie.close (tie.spec block-requires mul-result add-result shl-result returns)
+pub window_spec : {M : Type 1} → statement M
+window_spec = tie.close (tie.spec block-requires mul-result add-result shl-result returns)
