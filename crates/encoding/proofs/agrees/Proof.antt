@@ -21,10 +21,10 @@ abbrev start : tie.After-whole_ones → tie.Start
 start c = c.before.before.before
 
 abbrev first : tie.In-Ones-2 → tie.Start
-first c = start c.before.before
+first c = start c.before
 
 abbrev n-of : tie.In-Ones-last_ones-2 → tie.In-Ones-2
-n-of c = c.before.before.before.before
+n-of c = c.before.before
 
 abbrev second : tie.In-Ones-last_ones-2 → tie.Start
 second c = first (n-of c)
@@ -33,24 +33,24 @@ room : (c : tie.Start) → FieldsFit c.args.l.now c.args.e
 room c = fields_room c.args.l.now c.args.e c.requires.0
 
 bytes : (c : tie.After-whole_ones) → AllBytes (start c).args.l.now
-bytes c = bytes_all (start c).args.l.now (λ i. (c.before.before.shared_slice_known-1.given i).fits)
+bytes c = bytes_all (start c).args.l.now (λ i. (c.shared_slice_known-1.given i).fits)
 
 wrong : (c : tie.Start) → let l = c.args.l.now in AllBytes l → (Right l c.args.e → ⊥) → false ≡ same_numbers l (encode (entry_in l))
 wrong c ok h = wrong_same c.args.l.now c.args.e c.requires.0 ok h
 
 whole : (c : tie.In-Ones-2) → let a = (first c).args in
-    WholeRight a.l.now a.e × (c.n-1.given.0.0 ≡ ones (bits_in (drop a.e.edges a.l.now) (8 * (a.e.bits / 8))))
-whole c = subst (Whole _ _) c.n-1.given.1 c.before.before.whole_ones.ensures
+    WholeRight a.l.now a.e × (c.in-Ones.n ≡ ones (bits_in (drop a.e.edges a.l.now) (8 * (a.e.bits / 8))))
+whole c = subst (Whole _ _) c.in-Ones.is c.whole_ones.ensures
 
 last : (c : tie.In-Ones-last_ones-2) → let a = (second c).args in
-    LastRight a.l.now a.e × (c.k-1.given.0.0 ≡ ones (bits_in (last_edges a.l.now a.e) (a.e.bits % 8)))
-last c = subst (Last _ _) c.k-1.given.1 c.before.before.last_ones.ensures
+    LastRight a.l.now a.e × (c.in-Ones-last_ones.k ≡ ones (bits_in (last_edges a.l.now a.e) (a.e.bits % 8)))
+last c = subst (Last _ _) c.in-Ones-last_ones.is c.last_ones.ensures
 
 -- the numbers are small
-few : (c : tie.Else-not-levels_agree) → let k = c.before.before.before in let a = (second k).args in
-    (a.e.count < 4294967296) × (a.e.bits ≤ 524280) × ((n-of k).n-1.given.0.0 ≤ 524287) × (k.k-1.given.0.0 ≤ 8)
+few : (c : tie.Else-not-levels_agree) → let k = c.before.before in let a = (second k).args in
+    (a.e.count < 4294967296) × (a.e.bits ≤ 524280) × ((n-of k).in-Ones.n ≤ 524287) × (k.in-Ones-last_ones.k ≤ 8)
 few c =
-    let k = c.before.before.before in
+    let k = c.before.before in
     let a = (second k).args in
     let r = (room (second k)).few in (
       (second k).requires.0.small,
@@ -70,11 +70,11 @@ enum_told c = search rules
 
 returns : tie.Need-returns-in_default
 returns c =
-    let w = c.before.before in
-    wrong (start w) (bytes w) (λ r. subst (Whole _ _) c.enum_told-1.given.1 w.whole_ones.ensures (whole_of _ _ (start w).requires.0 r))
+    let w = c.before in
+    wrong (start w) (bytes w) (λ r. subst (Whole _ _) c.in_default.is w.whole_ones.ensures (whole_of _ _ (start w).requires.0 r))
 
 last-ones-requires : tie.Need-last_ones-requires
-last-ones-requires c κs = room (first c.before)
+last-ones-requires c κs = room (first c)
 
 enum-known-k : tie.Need-enum_known-k
 enum-known-k c = search rules
@@ -84,18 +84,18 @@ enum-told-2 c = search rules
 
 returns-2 : tie.Need-returns-in_default-last_ones
 returns-2 c =
-    let t = c.before.before in
-    let s = first t.before.before in
-    wrong s (bytes t.before.before.before.before) (λ r. subst (Last _ _) c.enum_told-in_default-last_ones-1.given.1 t.last_ones.ensures (last_of _ _ s.requires.0 r))
+    let t = c.before in
+    let s = first t.before in
+    wrong s (bytes t.before.before) (λ r. subst (Last _ _) c.in_default-last_ones.is t.last_ones.ensures (last_of _ _ s.requires.0 r))
 
 levels-agree-requires : tie.Need-levels_agree-requires
-levels-agree-requires c κs = let s = second c.before in (room s, (whole (n-of c.before)).0.0, s.requires.1)
+levels-agree-requires c κs = let s = second c in (room s, (whole (n-of c)).0.0, s.requires.1)
 
 returns-3 : tie.Need-returns-then-not-levels_agree
 returns-3 c =
     let t = c.before in
-    let k = t.before.before in
-    wrong (second k) (bytes (n-of k).before.before) (λ r. false≢true (sym (ap not (t.levels_agree.ensures.1 r.levels)) ∙ c.if-not-levels_agree.true))
+    let k = t.before in
+    wrong (second k) (bytes (n-of k).before) (λ r. false≢true (sym (ap not (t.levels_agree.ensures.1 r.levels)) ∙ c.if-not-levels_agree.true))
 
 add-result : tie.Need-overflow_add-result
 add-result c = omega (arith, few c.before.before)
@@ -112,14 +112,14 @@ add-result-3 c = omega (arith, few c.before.before.before)
 returns-4 : tie.Need-returns
 returns-4 c =
     let t = c.before.before.before.before in
-    let k = t.before.before in
+    let k = t.before in
     let s = second k in
     let w = whole (n-of k) in
     let v = last k in
     let q = count_of s.args.l.now s.args.e s.requires.0 _ _ w.1 v.1 in
     rw c.roots_of.ensures.0
-    (same_by s.args.l.now s.args.e s.requires.0 (bytes (n-of k).before.before) _ _
-    (λ z. right_of _ _ s.requires.0 w.0 v.0 (t.levels_agree.ensures.0 (not_false t.levels_agree.result c.before.before.before.if-not-levels_agree.false)) (q.0 z)) (λ r. q.1 r.count))
+    (same_by s.args.l.now s.args.e s.requires.0 (bytes (n-of k).before) _ _
+    (λ z. right_of _ _ s.requires.0 w.0 v.0 (t.levels_agree.ensures.0 (not_false t.levels_agree.result c.if-not-levels_agree.false)) (q.0 z)) (λ r. q.1 r.count))
 
 pub agrees_spec : {M : Type 1} → statement M
 agrees_spec =

@@ -6,8 +6,8 @@ use borrow.Author.Rules.{rules}
 use Rattle.encoding.proofs.check.Statement.{statement}
 use Rattle.encoding.proofs.check.Tie as tie
 
-fields : (c : tie.In-Opened-2) → Fields c.before.before.before.before.before.args.l.now c.e-1.given.0.0
-fields c = subst (Parsed _) c.e-1.given.1 c.before.before.parse.ensures
+fields : (c : tie.In-Opened-2) → Fields c.before.before.before.before.args.l.now c.in-Opened.e
+fields c = subst (Parsed _) c.in-Opened.is c.parse.ensures
 
 parse-requires : tie.Need-parse-requires
 parse-requires c κs = search rules
@@ -19,16 +19,16 @@ enum-known-e : tie.Need-enum_known-e
 enum-known-e c = search rules
 
 agrees-requires : tie.Need-agrees-requires
-agrees-requires c κs = (fields c.before, c.before.before.before.before.before.before.requires)
+agrees-requires c κs = (fields c, c.before.before.before.before.requires)
 
 returns : tie.Need-returns-then-agrees
-returns c = same_opens _ _ (fields c.before.before.before) (sym c.before.agrees.ensures ∙ c.if-agrees.true)
+returns c = same_opens _ _ (fields c.before.before) (sym c.agrees.ensures ∙ c.if-agrees.true)
 
 returns-2 : tie.Need-returns-in-Refused
-returns-2 c = subst (Parsed _) c.before.k-1.given.1 c.before.before.before.parse.ensures
+returns-2 c = subst (Parsed _) c.in-Refused.is c.parse.ensures
 
 returns-3 : tie.Need-returns-else-agrees
-returns-3 c = rejects_7 _ _ (fields c.before.before.before) (sym c.before.agrees.ensures ∙ c.if-agrees.false)
+returns-3 c = rejects_7 _ _ (fields c.before.before) (sym c.agrees.ensures ∙ c.if-agrees.false)
 
 pub check_spec : {M : Type 1} → statement M
 check_spec =

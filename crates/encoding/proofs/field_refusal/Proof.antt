@@ -28,22 +28,22 @@ abbrev tag : tie.After-laid_by → ℕ
 tag c = let a = (headed c).before.before.args in get_or a.l.now a.at 0
 
 -- the length that the tag in its turn says
-length-is : (c : tie.Else-tag-turn) → let a = (headed c.before.before.before.before).before.before.args in
-    c.before.before.n-1.given.0.0 ≡ body_bytes a.turn a.width a.bits
+length-is : (c : tie.Else-tag-turn) → let a = (headed c.before.before).before.before.args in
+    c.in-Length.n ≡ body_bytes a.turn a.width a.bits
 length-is c =
-    let d = c.before.before.before.before in
+    let d = c.before.before in
     let s = (headed d).before.before in
     let a = s.args in
     let z : tag d ≡ a.turn = c.if-tag-turn.false in
-    tag_length a.turn a.width a.bits c.before.before.n-1.given.0.0 s.requires.1 s.requires.2
-    (ap (λ x. laid_by x a.width a.bits) (sym z) ∙ sym d.laid_by.ensures ∙ c.before.before.n-1.given.1)
+    tag_length a.turn a.width a.bits c.in-Length.n s.requires.1 s.requires.2
+    (ap (λ x. laid_by x a.width a.bits) (sym z) ∙ sym d.laid_by.ensures ∙ c.in-Length.is)
 
-tagged : (c : tie.Else-tag-turn) → let d = c.before.before.before.before in eqb (tag d) (headed d).before.before.args.turn ≡ true
+tagged : (c : tie.Else-tag-turn) → let d = c.before.before in eqb (tag d) (headed d).before.before.args.turn ≡ true
 tagged c = eq-eqb _ _ c.if-tag-turn.false
 
-same_length : (c : tie.Else-number2-n) → let a = (headed c.before.before.before.before.before.before).before.before.args in
+same_length : (c : tie.Else-number2-n) → let a = (headed c.before.before.before.before).before.before.args in
     eqb (number_at 2 a.l.now (a.at + 1)) (body_bytes a.turn a.width a.bits) ≡ true
-same_length c = eq-eqb _ _ (sym c.before.number2.ensures.0 ∙ c.if-number2-n.false ∙ length-is c.before.before)
+same_length c = eq-eqb _ _ (sym c.number2.ensures.0 ∙ c.if-number2-n.false ∙ length-is c.before.before)
 
 sub-left : tie.Need-overflow_sub-left
 sub-left c = search rules
@@ -67,7 +67,7 @@ enum-known-n c = search rules
 returns-2 : tie.Need-returns-then-tag-turn
 unfolding field_tests first_of test
 returns-2 c =
-    let d = c.before.before.before.before in
+    let d = c.before.before in
     rw (long (headed d), ne_eqb (tag d) (headed d).before.before.args.turn c.if-tag-turn.true)
 
 add-number2 : tie.Need-overflow_add-at
@@ -80,30 +80,30 @@ returns-3 : tie.Need-returns-then-number2-n
 unfolding field_tests first_of test
 returns-3 c =
     let f = c.before.before in
-    let h = headed f.before.before.before.before in
-    rw (long h, tagged f, ne_eqb _ _ (λ z. c.if-number2-n.true (c.before.number2.ensures.0 ∙ z ∙ sym (length-is f))))
+    let h = headed f.before.before in
+    rw (long h, tagged f, ne_eqb _ _ (λ z. c.if-number2-n.true (c.number2.ensures.0 ∙ z ∙ sym (length-is f))))
 
 returns-4 : tie.Need-returns-then-left-n
 unfolding field_tests first_of test
 returns-4 c =
     let f = c.before.before.before in
-    let h = headed f.before.before.before.before in
+    let h = headed f.before.before in
     rw (long h, tagged f, same_length c.before, lt_yes _ _ (rw (length-is f) at c.if-left-n.true))
 
 returns-5 : tie.Need-returns-in-Refused
 unfolding field_tests first_of test
 returns-5 c =
-    let d = c.before.before.before in
+    let d = c.before in
     let s = (headed d).before.before in
     let a = s.args in
-    let r = tag_refused (tag d) a.width a.bits c.before.k-1.given.0.0 (sym d.laid_by.ensures ∙ c.before.k-1.given.1) in
+    let r = tag_refused (tag d) a.width a.bits c.in-Refused.k (sym d.laid_by.ensures ∙ c.in-Refused.is) in
     ap refusal_of r.0 ∙ rw (long (headed d), ne_eqb (tag d) a.turn (r.1 a.turn s.requires.1 s.requires.2))
 
 returns-6 : tie.Need-returns-else-left-n
 unfolding field_tests first_of test
 returns-6 c =
     let f = c.before.before.before in
-    let h = headed f.before.before.before.before in
+    let h = headed f.before.before in
     rw (long h, tagged f, same_length c.before, lt_no _ _ (rw (length-is f) at c.if-left-n.false))
 
 pub field_refusal_spec : {M : Type 1} → statement M

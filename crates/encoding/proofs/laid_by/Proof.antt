@@ -29,42 +29,42 @@ mul-t10 c = search rules
 
 returns : tie.Need-returns-in-1
 unfolding laid_by body_bytes
-returns c = let a = c.before.args in sym (ap (λ t. laid_by t a.width a.bits) c.in-1.keys1)
+returns c = let a = c.before.args in sym (ap (λ t. laid_by t a.width a.bits) c.in-1.is)
 
 returns-2 : tie.Need-returns-in-2
 unfolding laid_by body_bytes
-returns-2 c = let a = c.before.args in sym (ap (λ t. laid_by t a.width a.bits) c.in-2.keys2)
+returns-2 c = let a = c.before.args in sym (ap (λ t. laid_by t a.width a.bits) c.in-2.is)
 
 returns-3 : tie.Need-returns-in-3
 unfolding laid_by body_bytes
-returns-3 c = let a = c.before.args in sym (ap (λ t. laid_by t a.width a.bits) c.in-3.keys3)
+returns-3 c = let a = c.before.args in sym (ap (λ t. laid_by t a.width a.bits) c.in-3.is)
 
 returns-4 : tie.Need-returns-in-4
 unfolding laid_by body_bytes
 returns-4 c =
     let a = c.before.before.args in
-    ap (λ x. Length (x)) c.bytes_for.ensures.0 ∙ sym (ap (λ t. laid_by t a.width a.bits) c.before.in-4.keys4)
+    ap (λ x. Length (x)) c.bytes_for.ensures.0 ∙ sym (ap (λ t. laid_by t a.width a.bits) c.in-4.is)
 
 returns-5 : tie.Need-returns-in-5
 unfolding laid_by body_bytes
 returns-5 c =
     let a = c.before.before.args in
-    ap (λ x. Length (block_entry * x)) c.started_by.ensures.0 ∙ sym (ap (λ t. laid_by t a.width a.bits) c.before.in-5.keys5)
+    ap (λ x. Length (block_entry * x)) c.started_by.ensures.0 ∙ sym (ap (λ t. laid_by t a.width a.bits) c.in-5.is)
 
 returns-6 : tie.Need-returns-in-6
 unfolding laid_by body_bytes
 returns-6 c =
     let a = c.before.before.args in
-    ap (λ x. Length (sub_block_entry * x)) c.started_by-in-6.ensures.0 ∙ sym (ap (λ t. laid_by t a.width a.bits) c.before.in-6.keys6)
+    ap (λ x. Length (sub_block_entry * x)) c.started_by-in-6.ensures.0 ∙ sym (ap (λ t. laid_by t a.width a.bits) c.in-6.is)
 
 returns-7 : tie.Need-returns-in-0
 unfolding laid_by
-returns-7 c = let a = c.before.args in sym (ap (λ t. laid_by t a.width a.bits) c.in-0.keys7)
+returns-7 c = let a = c.before.args in sym (ap (λ t. laid_by t a.width a.bits) c.in-0.in-0-own.keys7)
 
 returns-8 : tie.Need-returns-in-0-2
 unfolding laid_by
 returns-8 c =
-    let r = c.in-0.rest in
+    let r = c.in-0.in-0-own.rest in
     let t = c.before.args.tag in
     let q : 4 ≤ t = omega (arith, r.1, r.0.0.0.0.1, r.0.0.0.0.0.1, r.0.0.0.0.0.0.1) in
     let h : 7 ≤ t = omega (arith, q, r.0.1, r.0.0.1, r.0.0.0.1) in

@@ -21,10 +21,10 @@ enum-known-e : tie.Need-enum_known-e
 enum-known-e c = search rules
 
 returns : tie.Need-returns-in-Refused
-returns c = open_refused _ _ (subst (Checks _) c.before.k-1.given.1 c.before.before.before.check.ensures)
+returns c = open_refused _ _ (subst (Checks _) c.in-Refused.is c.check.ensures)
 
 returns-2 : tie.Need-returns-in-Opened
-returns-2 c = open_told _ _ (subst (Checks _) c.before.e-1.given.1 c.before.before.before.check.ensures)
+returns-2 c = open_told _ _ (subst (Checks _) c.in-Opened.is c.check.ensures)
 
 pub open_spec : {M : Type 1} → statement M
 open_spec =

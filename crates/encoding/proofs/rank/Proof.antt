@@ -24,10 +24,10 @@ slice-aggregate-rank-in : tie.Need-slice_bounds-rank_in-end
 slice-aggregate-rank-in c = search rules
 
 rank-in-requires : tie.Need-rank_in-requires
-rank-in-requires c κs = (subst (Checks _) c.before.before.e-1.given.1 c.before.before.before.before.check.ensures, c.before.before.before.before.before.before.tallies-t.ensures)
+rank-in-requires c κs = (subst (Checks _) c.in-Opened.is c.check.ensures, c.tallies-t.ensures)
 
 returns : tie.Need-returns-in-Refused
-returns c = rank_refused _ _ _ (subst (Checks _) c.before.k-1.given.1 c.before.before.before.check.ensures)
+returns c = rank_refused _ _ _ (subst (Checks _) c.in-Refused.is c.check.ensures)
 
 returns-2 : tie.Need-returns-in-Opened
 returns-2 c = search rules

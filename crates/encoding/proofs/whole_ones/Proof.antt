@@ -81,10 +81,10 @@ abbrev turn : tie.After-scan_sub_block invariant-loop decreases-loop → tie.In-
 turn c = c.before.before.before.before
 
 abbrev met : tie.In-Ones invariant-loop decreases-loop → tie.After-scan_sub_block invariant-loop decreases-loop
-met c = c.before.before.before
+met c = c.before
 
-part : (c : tie.In-Ones invariant-loop decreases-loop) → Part (turn (met c)).before 64 c.before.k-1.given.0.0
-part c = subst (BytesTallied _ _) c.before.k-1.given.1 (met c).scan_sub_block.ensures
+part : (c : tie.In-Ones invariant-loop decreases-loop) → Part (turn (met c)).before 64 c.in-Ones.k
+part c = subst (BytesTallied _ _) c.in-Ones.is (met c).scan_sub_block.ensures
 
 loop-holds : tie.Need-loop-j-init invariant-loop decreases-loop
 loop-holds c = let a = c.before.before.args in (omega arith, going_start a.l.now a.e, omega arith, λ z. absurd (z (omega arith)))
@@ -96,7 +96,7 @@ entries-agree-requires : tie.Need-entries_agree-requires invariant-loop decrease
 entries-agree-requires c κs = let d = c.before in ((start d.before).requires, there d, base-here d.before (there d) c.block_base-base.result c.block_base-base.ensures)
 
 returns : tie.Need-returns-then-not-entries_agree invariant-loop decreases-loop
-returns c = let d = c.before.before.before in entries-wrong d.before (there d) c.before.entries_agree.result c.before.entries_agree.ensures c.if-not-entries_agree.true
+returns c = let d = c.before.before.before in entries-wrong d.before (there d) c.entries_agree.result c.entries_agree.ensures c.if-not-entries_agree.true
 
 mul-scan-sub-block : tie.Need-overflow_mul-j invariant-loop decreases-loop
 mul-scan-sub-block c = omega (arith, few c.before.before.before.before)
@@ -115,9 +115,9 @@ enum_told c = search rules
 
 returns-2 : tie.Need-returns-in_default invariant-loop decreases-loop
 returns-2 c =
-    let b = c.before.before in
+    let b = c.before in
     let d = turn b in
-    bytes-wrong d.before (there d) 64 (whole-size d) (subst (BytesTallied _ _) c.enum_told-1.given.1 b.scan_sub_block.ensures)
+    bytes-wrong d.before (there d) 64 (whole-size d) (subst (BytesTallied _ _) c.in_default.is b.scan_sub_block.ensures)
 
 add-n : tie.Need-overflow_add-n invariant-loop decreases-loop
 add-n c = let d = turn (met c) in omega (arith, sum-few d.before (there d) 64 (whole-size d) _ (part c))
@@ -145,7 +145,7 @@ returns-3 : tie.Need-returns-then-e-eq0 invariant-loop decreases-loop
 returns-3 c =
     let h = c.before.before.before in
     let a = (start h).args in
-    going_end a.l.now a.e h.loop-j.j h.loop-j.n h.loop-j.invariant.1 (unfold started in omega (arith, c.before.before.loop-j-test.false, c.if-e-eq0.true))
+    going_end a.l.now a.e h.loop-j.j h.loop-j.n h.loop-j.invariant.1 (unfold started in omega (arith, c.loop-j-test.false, c.if-e-eq0.true))
 
 -- ---- The last, if it is not whole
 module _ (c : tie.Else-e-eq0 invariant-loop decreases-loop) where
@@ -168,7 +168,7 @@ entries-agree-requires-2 : tie.Need-entries_agree-requires-2 invariant-loop decr
 entries-agree-requires-2 c κs = let d = c.before in ((start (end d)).requires, last-there d, base-here (end d) (last-there d) c.block_base-base-2.result c.block_base-base-2.ensures)
 
 returns-4 : tie.Need-returns-then-not-entries_agree-2 invariant-loop decreases-loop
-returns-4 c = let d = c.before.before.before in entries-wrong (end d) (last-there d) c.before.entries_agree-2.result c.before.entries_agree-2.ensures c.if-not-entries_agree-2.true
+returns-4 c = let d = c.before.before.before in entries-wrong (end d) (last-there d) c.entries_agree-2.result c.entries_agree-2.ensures c.if-not-entries_agree-2.true
 
 mul-from : tie.Need-overflow_mul-from invariant-loop decreases-loop
 mul-from c = let d = c.before.before.before in omega (arith, last-there d, few (end d))
@@ -183,7 +183,7 @@ part-ones-requires : tie.Need-part_ones-requires invariant-loop decreases-loop
 part-ones-requires c κs =
     let d = c.before.before.before.before in
     let i = inside (end d) in
-    (omega (arith, (start (end d)).requires.before), omega (arith, last-there d), omega (arith, i), omega (arith, d.before.before.loop-j-test.false))
+    (omega (arith, (start (end d)).requires.before), omega (arith, last-there d), omega (arith, i), omega (arith, d.loop-j-test.false))
 
 enum-known-rest : tie.Need-enum_known-rest invariant-loop decreases-loop
 enum-known-rest c = search rules
@@ -196,24 +196,24 @@ last c = c.before.before.before.before.before
 
 returns-5 : tie.Need-returns-in_default-part_ones invariant-loop decreases-loop
 returns-5 c =
-    let b = c.before.before in
+    let b = c.before in
     let d = last b in
-    bytes-wrong (end d) (last-there d) (size d) (last-size d) (subst (BytesTallied _ _) c.enum_told-in_default-part_ones-1.given.1 b.part_ones.ensures)
+    bytes-wrong (end d) (last-there d) (size d) (last-size d) (subst (BytesTallied _ _) c.in_default-part_ones.is b.part_ones.ensures)
 
-rest-is : (c : tie.In-Ones-part_ones invariant-loop decreases-loop) → let d = last c.before.before.before in Part (end d) (size d) c.before.rest-1.given.0.0
-rest-is c = subst (BytesTallied _ _) c.before.rest-1.given.1 c.before.before.before.part_ones.ensures
+rest-is : (c : tie.In-Ones-part_ones invariant-loop decreases-loop) → let d = last c.before in Part (end d) (size d) c.in-Ones-part_ones.rest
+rest-is c = subst (BytesTallied _ _) c.in-Ones-part_ones.is c.part_ones.ensures
 
 add-ones : tie.Need-overflow_add-ones invariant-loop decreases-loop
-add-ones c = let d = last c.before.before.before in omega (arith, sum-few (end d) (last-there d) (size d) (last-size d) _ (rest-is c))
+add-ones c = let d = last c.before in omega (arith, sum-few (end d) (last-there d) (size d) (last-size d) _ (rest-is c))
 
 returns-6 : tie.Need-returns invariant-loop decreases-loop
 returns-6 c =
-    let b = c.before.before.before in
+    let b = c.before in
     let d = last b in
     let h = end d in
     let a = (start h).args in
-    let r = b.before.before.before.entries_agree-2 in
-    going_end a.l.now a.e (h.loop-j.j + 1) _ (next h (last-there d) (size d) (last-size d) _ (rest-is c) r.result r.ensures b.before.before.if-not-entries_agree-2.false) (unfold started in omega (arith, d.before.before.loop-j-test.false))
+    let r = b.entries_agree-2 in
+    going_end a.l.now a.e (h.loop-j.j + 1) _ (next h (last-there d) (size d) (last-size d) _ (rest-is c) r.result r.ensures b.if-not-entries_agree-2.false) (unfold started in omega (arith, d.before.before.loop-j-test.false))
 
 pub whole_ones_spec : {M : Type 1} → statement M
 whole_ones_spec =
