@@ -20,7 +20,7 @@ end_is c e d n h = ap (λ x. 2 * (c + x)) h
 pub ends_none : (e : List Bool) (b d : ℕ) → b ≡ 0 → length e ≡ b → ends (roots b) e d ≡ 0
 unfolding ends roots
 ends_none e b zero z h = refl
-ends_none e b (suc d) z h = rw z (omega (arith, (rank_le e (ends 0 e d)).1))
+ends_none e b (suc d) z h = let r : roots b ≡ 0 = rw z in omega (arith, r, (rank_le e (ends (roots b) e d)).1)
 
 -- before level d: it begins at `start`, as far as there are edges, and n bits are set before `from`, where the level above begins
 pub record Level (c : ℕ) (e : List Bool) (b d from start n : ℕ) : Type 0 where

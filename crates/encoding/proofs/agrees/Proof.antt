@@ -20,13 +20,13 @@ use Rattle.encoding.proofs.agrees.Tie as tie
 abbrev start : tie.After-whole_ones → tie.Start
 start c = c.before.before.before
 
-abbrev first : tie.In-Ones-2 → tie.Start
+abbrev first : tie.In-Ones → tie.Start
 first c = start c.before
 
-abbrev n-of : tie.In-Ones-last_ones-2 → tie.In-Ones-2
+abbrev n-of : tie.In-Ones-last_ones → tie.In-Ones
 n-of c = c.before.before
 
-abbrev second : tie.In-Ones-last_ones-2 → tie.Start
+abbrev second : tie.In-Ones-last_ones → tie.Start
 second c = first (n-of c)
 
 room : (c : tie.Start) → FieldsFit c.args.l.now c.args.e
@@ -38,11 +38,11 @@ bytes c = bytes_all (start c).args.l.now (λ i. (c.shared_slice_known-1.given i)
 wrong : (c : tie.Start) → let l = c.args.l.now in AllBytes l → (Right l c.args.e → ⊥) → false ≡ same_numbers l (encode (entry_in l))
 wrong c ok h = wrong_same c.args.l.now c.args.e c.requires.0 ok h
 
-whole : (c : tie.In-Ones-2) → let a = (first c).args in
+whole : (c : tie.In-Ones) → let a = (first c).args in
     WholeRight a.l.now a.e × (c.in-Ones.n ≡ ones (bits_in (drop a.e.edges a.l.now) (8 * (a.e.bits / 8))))
 whole c = subst (Whole _ _) c.in-Ones.is c.whole_ones.ensures
 
-last : (c : tie.In-Ones-last_ones-2) → let a = (second c).args in
+last : (c : tie.In-Ones-last_ones) → let a = (second c).args in
     LastRight a.l.now a.e × (c.in-Ones-last_ones.k ≡ ones (bits_in (last_edges a.l.now a.e) (a.e.bits % 8)))
 last c = subst (Last _ _) c.in-Ones-last_ones.is c.last_ones.ensures
 
@@ -95,7 +95,7 @@ returns-3 : tie.Need-returns-then-not-levels_agree
 returns-3 c =
     let t = c.before in
     let k = t.before in
-    wrong (second k) (bytes (n-of k).before) (λ r. false≢true (sym (ap not (t.levels_agree.ensures.1 r.levels)) ∙ c.if-not-levels_agree.true))
+    wrong (second k) (bytes (n-of k).before) (λ r. false≢true (sym (ap not (t.levels_agree.ensures.1 r.levels)) ∙ (ap not c.if-not-levels_agree.true)))
 
 add-result : tie.Need-overflow_add-result
 add-result c = omega (arith, few c.before.before)
@@ -119,7 +119,7 @@ returns-4 c =
     let q = count_of s.args.l.now s.args.e s.requires.0 _ _ w.1 v.1 in
     rw c.roots_of.ensures.0
     (same_by s.args.l.now s.args.e s.requires.0 (bytes (n-of k).before) _ _
-    (λ z. right_of _ _ s.requires.0 w.0 v.0 (t.levels_agree.ensures.0 (not_false t.levels_agree.result c.if-not-levels_agree.false)) (q.0 z)) (λ r. q.1 r.count))
+    (λ z. right_of _ _ s.requires.0 w.0 v.0 (t.levels_agree.ensures.0 (not_false t.levels_agree.result (ap not c.if-not-levels_agree.false))) (q.0 z)) (λ r. q.1 r.count))
 
 pub agrees_spec : {M : Type 1} → statement M
 agrees_spec =

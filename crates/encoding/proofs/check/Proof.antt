@@ -6,7 +6,7 @@ use borrow.Author.Rules.{rules}
 use Rattle.encoding.proofs.check.Statement.{statement}
 use Rattle.encoding.proofs.check.Tie as tie
 
-fields : (c : tie.In-Opened-2) → Fields c.before.before.before.before.args.l.now c.in-Opened.e
+fields : (c : tie.In-Opened) → Fields c.before.before.before.before.args.l.now c.in-Opened.e
 fields c = subst (Parsed _) c.in-Opened.is c.parse.ensures
 
 parse-requires : tie.Need-parse-requires

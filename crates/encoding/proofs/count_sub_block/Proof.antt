@@ -40,7 +40,7 @@ module _ (c : tie.After-tally_part invariant-loop decreases-loop) where
   there = omega (arith, start.requires.3, start.requires.4)
 
   -- with the bytes before it that is what is to be counted
-  with_part : (start.args.block + start.args.sub-block + c.tally_part.result) + ones (bits_in bytes (8 * last)) ≡ count_sub_block start.args.block start.args.sub-block bytes start.args.n
+  with_part : (start.args.block + start.args.sub_block + c.tally_part.result) + ones (bits_in bytes (8 * last)) ≡ count_sub_block start.args.block start.args.sub_block bytes start.args.n
   unfolding count_sub_block
   with_part =
       let z : 8 * last + (bit % 8 + 1) ≡ start.args.n = omega (arith, start.requires.2) in

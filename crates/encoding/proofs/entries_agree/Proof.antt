@@ -1,5 +1,4 @@
 use mathlib.Core.Path.{◌≡◌, sym, ◌∙◌}
-use mathlib.Core.Logic.{inl, inr}
 use mathlib.Core.Bool.{false≢true}
 use Prim.Native.Nat.{◌+◌, ◌-◌, ◌*◌, ◌/◌, ◌≤◌}
 use native.Mathlib.Omega.{arith}
@@ -10,6 +9,7 @@ use Rattle.loes.proofs.Tests.{yes_eq}
 use Rattle.encoding.proofs.Pass.{entries_room}
 use borrow.Author.Rules.{rules}
 use Rattle.encoding.proofs.entries_agree.Statement.{statement}
+use Rattle.encoding.proofs.entries_agree.Lts.{then-j-eq0+else-number8-n, else-j-eq0}
 use Rattle.encoding.proofs.entries_agree.Tie as tie
 
 room : (c : tie.Start) → let a = c.args in
@@ -21,8 +21,8 @@ block : (c : tie.Joined-j-eq0) → let a = c.before.before.args in number_at 8 a
 block c =
     let d = c.before.before.requires.2 in
     elim c.if-j-eq0.branch [
-      | inl w ↦ sym w.2.ensures ∙ w.3.false ∙ sym (d.first w.0.true)
-      | inr w ↦ d.later w.false
+      | then-j-eq0+else-number8-n w ↦ sym w.number8.ensures ∙ w.if-number8-n.false ∙ sym (d.first w.if-j-eq0.true)
+      | else-j-eq0 w ↦ d.later w.if-j-eq0.false
     ]
 
 sub : (c : tie.After-number2) → let a = c.before.before.before.before.args in c.number2.result ≡ number_at 2 a.l.now (a.e.sub_blocks + 2 * a.j)

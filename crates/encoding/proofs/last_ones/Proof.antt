@@ -28,7 +28,7 @@ small : (c : tie.After-shared_slice_known-2-1) → byte c < 256
 small c = let a = (start c).args in omega (arith, c.shared_slice_known-2-1.given (a.e.edges + a.e.bits / 8))
 
 few : (c : tie.After-shared_slice_known-2-1) → Count.ones (byte c) ≤ 8
-few c = Count.ones_le 8 (byte c) (small c)
+few c = Count.ones-le 8 (byte c) (small c)
 
 returns : tie.Need-returns-then-used-eq0
 returns c = let a = c.before.before.before.args in last_none a.l.now a.e c.if-used-eq0.true
@@ -37,7 +37,8 @@ add_at : tie.Need-overflow_add-at
 add_at c = search rules
 
 shared-slice-read-x : tie.Need-bounds-l-at
-shared-slice-read-x c = inside c
+unfolding started
+shared-slice-read-x c = omega (arith, c.requires.edges)
 
 cast-x : tie.Need-overflow_cast-x
 cast-x c = omega (arith, small c)

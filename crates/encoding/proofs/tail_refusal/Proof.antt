@@ -116,12 +116,12 @@ end-of-requires c κs = let p = (third c.before).requires in (p.0, p.1, p.2)
 returns-4 : tie.Need-returns-then-end_of-l
 returns-4 c =
     let d = c.before in
-    behind d.before _ (stops _ _ _ (holds 6 (lt_yes _ _ (rw d.end_of_lem.ensures at c.if-end_of-l.true))))
+    behind d.before _ (stops _ _ _ (holds 6 (lt_yes _ _ (rw d.end_of.ensures at c.if-end_of-l.true))))
 
 returns-5 : tie.Need-returns
 returns-5 c =
     let d = c.before in
-    behind d.before _ (passes _ _ (clear 6 (lt_no _ _ (rw d.end_of_lem.ensures at c.if-end_of-l.false))) all_passed)
+    behind d.before _ (passes _ _ (clear 6 (lt_no _ _ (rw d.end_of.ensures at c.if-end_of-l.false))) all_passed)
 
 pub tail_refusal_spec : {M : Type 1} → statement M
 tail_refusal_spec =

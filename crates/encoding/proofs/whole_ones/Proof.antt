@@ -84,7 +84,7 @@ abbrev met : tie.In-Ones invariant-loop decreases-loop → tie.After-scan_sub_bl
 met c = c.before
 
 part : (c : tie.In-Ones invariant-loop decreases-loop) → Part (turn (met c)).before 64 c.in-Ones.k
-part c = subst (BytesTallied _ _) c.in-Ones.is (met c).scan_sub_block.ensures
+part c = let a = (start (turn (met c)).before).args in subst (BytesTallied (drop (a.e.edges + 64 * c.loop-j.j) a.l.now) 64) c.in-Ones.is (met c).scan_sub_block.ensures
 
 loop-holds : tie.Need-loop-j-init invariant-loop decreases-loop
 loop-holds c = let a = c.before.before.args in (omega arith, going_start a.l.now a.e, omega arith, λ z. absurd (z (omega arith)))
@@ -96,7 +96,7 @@ entries-agree-requires : tie.Need-entries_agree-requires invariant-loop decrease
 entries-agree-requires c κs = let d = c.before in ((start d.before).requires, there d, base-here d.before (there d) c.block_base-base.result c.block_base-base.ensures)
 
 returns : tie.Need-returns-then-not-entries_agree invariant-loop decreases-loop
-returns c = let d = c.before.before.before in entries-wrong d.before (there d) c.entries_agree.result c.entries_agree.ensures c.if-not-entries_agree.true
+returns c = let d = c.before.before.before in entries-wrong d.before (there d) c.entries_agree.result c.entries_agree.ensures (ap not c.if-not-entries_agree.true)
 
 mul-scan-sub-block : tie.Need-overflow_mul-j invariant-loop decreases-loop
 mul-scan-sub-block c = omega (arith, few c.before.before.before.before)
@@ -117,7 +117,7 @@ returns-2 : tie.Need-returns-in_default invariant-loop decreases-loop
 returns-2 c =
     let b = c.before in
     let d = turn b in
-    bytes-wrong d.before (there d) 64 (whole-size d) (subst (BytesTallied _ _) c.in_default.is b.scan_sub_block.ensures)
+    bytes-wrong d.before (there d) 64 (whole-size d) (subst (BytesTallied (drop ((start d.before).args.e.edges + 64 * c.loop-j.j) (start d.before).args.l.now) 64) c.in_default.is b.scan_sub_block.ensures)
 
 add-n : tie.Need-overflow_add-n invariant-loop decreases-loop
 add-n c = let d = turn (met c) in omega (arith, sum-few d.before (there d) 64 (whole-size d) _ (part c))
@@ -136,9 +136,9 @@ loop-again c =
     let r = m.before.before.entries_agree in
     let b = base-here h (there d) m.before.before.before.block_base-base.result m.before.before.before.block_base-base.ensures in (
       omega (arith, d.loop-j-test.true),
-      next h (there d) 64 (whole-size d) _ (part c) r.result r.ensures m.before.if-not-entries_agree.false,
+      next h (there d) 64 (whole-size d) _ (part c) r.result r.ensures (ap not m.before.if-not-entries_agree.false),
       omega (arith, b.below),
-      later_next (l h (there d)) (e h (there d)) h.loop-j.j _ h.loop-j.n b (r.ensures.0 (not_false r.result m.before.if-not-entries_agree.false)),
+      later_next (l h (there d)) (e h (there d)) h.loop-j.j _ h.loop-j.n b (r.ensures.0 (not_false r.result (ap not m.before.if-not-entries_agree.false))),
     )
 
 returns-3 : tie.Need-returns-then-e-eq0 invariant-loop decreases-loop
@@ -168,7 +168,7 @@ entries-agree-requires-2 : tie.Need-entries_agree-requires-2 invariant-loop decr
 entries-agree-requires-2 c κs = let d = c.before in ((start (end d)).requires, last-there d, base-here (end d) (last-there d) c.block_base-base-2.result c.block_base-base-2.ensures)
 
 returns-4 : tie.Need-returns-then-not-entries_agree-2 invariant-loop decreases-loop
-returns-4 c = let d = c.before.before.before in entries-wrong (end d) (last-there d) c.entries_agree-2.result c.entries_agree-2.ensures c.if-not-entries_agree-2.true
+returns-4 c = let d = c.before.before.before in entries-wrong (end d) (last-there d) c.entries_agree-2.result c.entries_agree-2.ensures (ap not c.if-not-entries_agree-2.true)
 
 mul-from : tie.Need-overflow_mul-from invariant-loop decreases-loop
 mul-from c = let d = c.before.before.before in omega (arith, last-there d, few (end d))
@@ -213,7 +213,7 @@ returns-6 c =
     let h = end d in
     let a = (start h).args in
     let r = b.entries_agree-2 in
-    going_end a.l.now a.e (h.loop-j.j + 1) _ (next h (last-there d) (size d) (last-size d) _ (rest-is c) r.result r.ensures b.if-not-entries_agree-2.false) (unfold started in omega (arith, d.before.before.loop-j-test.false))
+    going_end a.l.now a.e (h.loop-j.j + 1) _ (next h (last-there d) (size d) (last-size d) _ (rest-is c) r.result r.ensures (ap not b.if-not-entries_agree-2.false)) (unfold started in omega (arith, d.before.before.loop-j-test.false))
 
 pub whole_ones_spec : {M : Type 1} → statement M
 whole_ones_spec =
