@@ -10,19 +10,19 @@ use Rattle.build.proofs.put8.Tie as tie
 put4-requires : tie.Need-put4-requires
 put4-requires c κs = search rules
 
-sub-put4 : tie.Need-overflow-sub-put4
+sub-put4 : tie.Need-slice_bounds-put4-count
 sub-put4 c = search rules
 
-part-put4-start : tie.Need-slice-bounds-put4-start
+part-put4-start : tie.Need-slice_bounds-put4-start
 part-put4-start c = search rules
 
-part-put4-end : tie.Need-slice-bounds-put4-end
+part-put4-end : tie.Need-slice_bounds-put4-end
 part-put4-end c = search rules
 
 put4-requires-2 : tie.Need-put4-requires-2
 put4-requires-2 c κs = search rules
 
-same_length : tie.Need-same-length
+same_length : tie.Need-shape_of-out
 same_length c = search rules
 
 returns : tie.Need-returns
@@ -30,12 +30,12 @@ returns c =
     let first = c.before.before.before.before.before.before in
     let s = first.before.before.before in
     let n = s.args.n in
-    behind (big_endian 4 0) (big_endian 4 n) s.args.out.now first.put4.new.0 c.before.before.put42.new.0 4 (length_big_endian 4 0) first.put4.ensures
-    (omega (arith, length_big_endian 4 0, length_big_endian 4 n)) c.before.before.put42.ensures
+    behind (big_endian 4 0) (big_endian 4 n) s.args.out.now first.put4.new.out c.before.before.put4-2.new.out 4 (length_big_endian 4 0) first.put4.ensures
+    (omega (arith, length_big_endian 4 0, length_big_endian 4 n)) c.before.before.put4-2.ensures
     ∙ ap (λ x. front x s.args.out.now) (eight n s.requires.1)
 
-pub put8-spec : {M : Type 1} → statement M
-put8-spec =
+pub put8_spec : {M : Type 1} → statement M
+put8_spec =
     tie.close
     (tie.spec
     put4-requires

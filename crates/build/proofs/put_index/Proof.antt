@@ -18,7 +18,7 @@ use Rattle.build.proofs.put_index.Statement.{statement}
 use Rattle.build.proofs.put_index.Tie as tie
 
 -- the edges and the two fields, when how many bytes and blocks there are is known
-module _ (q : tie.After-started-by) where
+module _ (q : tie.After-started_by-blocks) where
   abbrev s : tie.Start
   s = q.before.before.before.before
 
@@ -29,23 +29,23 @@ module _ (q : tie.After-started-by) where
   xs = s.args.out.now
 
   abbrev len : ℕ
-  len = q.before.bytes-for.result
+  len = q.before.bytes_for-len.result
 
   abbrev blocks : ℕ
-  blocks = q.started-by.result
+  blocks = q.started_by-blocks.result
 
   abbrev subs : ℕ
   subs = started sub_block_bits b
 
   len_is : len ≡ edge_bytes b
-  len_is = q.before.bytes-for.ensures.0
+  len_is = q.before.bytes_for-len.ensures.0
 
   blocks_is : blocks ≡ started block_bits b
-  blocks_is = q.started-by.ensures.0
+  blocks_is = q.started_by-blocks.ensures.0
 
   few : blocks ≤ max_blocks
   unfolding started
-  few = omega (arith, blocks_is, s.pre.1)
+  few = omega (arith, blocks_is, s.requires.1)
 
   same_edges : take len xs ≡ take (edge_bytes b) xs
   same_edges = ap (λ n. take n xs) len_is
@@ -64,7 +64,7 @@ module _ (q : tie.After-started-by) where
   at6 = body_at len + block_entry * blocks
 
   room : body_at at6 + sub_block_entry * subs ≤ length xs
-  room = omega (arith, len_is, blocks_is, s.pre.0)
+  room = omega (arith, len_is, blocks_is, s.requires.0)
 
   place : len + length F5 ≡ at6
   place = omega (arith, field_length 5 (big_endians block_entry (block_ones (bits_in l b)) blocks), length_big_endians block_entry (block_ones (bits_in l b)) blocks)
@@ -73,23 +73,23 @@ module _ (q : tie.After-started-by) where
   fits = omega (arith, room, field_length 6 (big_endians sub_block_entry (sub_block_ones (bits_in l b)) subs), length_big_endians sub_block_entry (sub_block_ones (bits_in l b)) subs)
 
 -- the sub-blocks' counts are written, and the blocks' are known
-module _ (k : tie.After-put-sub-blocks) where
-  abbrev start : tie.After-started-by
+module _ (k : tie.After-put_sub_blocks) where
+  abbrev start : tie.After-started_by-blocks
   start = k.before.before.before.before
 
   abbrev us : Bytes
-  us = k.put-sub-blocks.last.0
+  us = k.put_sub_blocks.last.0
 
   abbrev bases : List ℕ
-  bases = k.put-sub-blocks.last.1.1.1.1.0
+  bases = k.put_sub_blocks.last.1.1.1.1.0
 
   last : us ≡ front (take (at6 start) (xs start) ++ F6 start) (xs start)
   last =
-      k.put-sub-blocks.ensures.0
+      k.put_sub_blocks.ensures.0
       ∙ ap (λ x. front (take (at6 start) (xs start) ++ field 6 (big_endians sub_block_entry (sub_block_ones (bits_in x (b start))) (subs start))) (xs start)) (sym (same_edges start))
 
   based : (j : ℕ) → j < blocks start → get_or bases j 0 ≡ block_ones (bits_in (l start) (b start)) j
-  based j h = k.put-sub-blocks.ensures.1 j (omega (arith, blocks_is start)) ∙ ap (λ x. block_ones (bits_in x (b start)) j) (sym (same_edges start))
+  based j h = k.put_sub_blocks.ensures.1 j (omega (arith, blocks_is start)) ∙ ap (λ x. block_ones (bits_in x (b start)) j) (sym (same_edges start))
 
   long : length us ≡ length (xs start)
   long = long_us (F5 start) (F6 start) (xs start) us us (len start) (at6 start) (place start) (fits start) last
@@ -106,53 +106,53 @@ module _ (k : tie.After-put-sub-blocks) where
   same5 : field 5 (big_endians block_entry (λ (j : ℕ). get_or bases j 0) (blocks start)) ≡ F5 start
   same5 = ap (field 5) (big_endians_ext block_entry (λ (j : ℕ). get_or bases j 0) (block_ones (bits_in (l start) (b start))) (blocks start) based)
 
-bytes-for-requires : tie.Need-bytes-for-requires
+bytes-for-requires : tie.Need-bytes_for-len-requires
 bytes-for-requires c κs = search rules
 
-started-by-requires : tie.Need-started-by-requires
+started-by-requires : tie.Need-started_by-blocks-requires
 started-by-requires c κs = search rules
 
-no-bases-requires : tie.Need-no-bases-requires
+no-bases-requires : tie.Need-no_bases-bases-requires
 no-bases-requires c κs = search rules
 
-add_at : tie.Need-overflow-add-at
+add_at : tie.Need-overflow_add-at
 add_at c = search rules
 
-mul_at : tie.Need-overflow-mul-at
+mul_at : tie.Need-overflow_mul-at
 mul_at c = search rules
 
-add-at-2 : tie.Need-overflow-add-at-2
+add-at-2 : tie.Need-overflow_add-at-2
 add-at-2 c = search rules
 
-slice-aggregate-put-sub-blocks : tie.Need-slice-aggregate-put-sub-blocks
+slice-aggregate-put-sub-blocks : tie.Need-slice_bounds-put_sub_blocks-end
 slice-aggregate-put-sub-blocks c = search rules
 
-put-sub-blocks-requires : tie.Need-put-sub-blocks-requires
+put-sub-blocks-requires : tie.Need-put_sub_blocks-requires
 put-sub-blocks-requires c κs =
     let q = c.before.before.before in
-    (omega (arith, len_is q), room q, (s q).requires.1, (s q).requires.2, c.before.before.no-bases.ensures)
+    (omega (arith, len_is q), room q, (s q).requires.1, (s q).requires.2, c.before.before.no_bases-bases.ensures)
 
-sub-put-blocks : tie.Need-overflow-sub-put-blocks
+sub-put-blocks : tie.Need-slice_bounds-put_blocks-count
 sub-put-blocks c = let k = c.before.before.before in omega (arith, long k, room (start k))
 
-part-put-blocks-start : tie.Need-slice-bounds-put-blocks-start
+part-put-blocks-start : tie.Need-slice_bounds-put_blocks-start
 part-put-blocks-start c = let k = c.before.before.before in let n = long k in let r = room (start k) in search rules
 
-part-put-blocks-end : tie.Need-slice-bounds-put-blocks-end
+part-put-blocks-end : tie.Need-slice_bounds-put_blocks-end
 part-put-blocks-end c = search rules
 
-slice-aggregate-put-blocks : tie.Need-slice-aggregate-put-blocks
+slice-aggregate-put-blocks : tie.Need-slice_bounds-put_blocks-end-2
 slice-aggregate-put-blocks c = search rules
 
-put-blocks-requires : tie.Need-put-blocks-requires
+put-blocks-requires : tie.Need-put_blocks-requires
 put-blocks-requires c κs =
     let k = c.before.before.before.before.before in
     let s = start k in
     let f = part_us (F5 s) (F6 s) (xs s) (us k) (us k) (len s) (at6 s) (place s) (fits s) (last k) in
-    let n = k.put-sub-blocks.auto.1.1.1.1.0 in
+    let n = k.put_sub_blocks.auto.1.1.1.1.0 in
     ((omega (arith, f, place s), omega (arith, n, few s), omega (arith, n)), small k)
 
-same_length : tie.Need-same-length
+same_length : tie.Need-shape_of-out
 same_length c = search rules
 
 returns : tie.Need-returns
@@ -160,12 +160,12 @@ unfolding indexed
 returns c =
     let k = c.before.before.before.before.before.before.before.before in
     let s = start k in
-    between (F5 s) (F6 s) (xs s) (us k) c.before.before.put-blocks.new.0 (len s) (at6 s) (place s) (fits s) (last k)
-    (c.before.before.put-blocks.ensures ∙ ap (λ x. front x (take (length (us k) - len s) (drop (len s) (us k)))) (same5 k))
+    between (F5 s) (F6 s) (xs s) (us k) c.before.before.put_blocks.new.out (len s) (at6 s) (place s) (fits s) (last k)
+    (c.before.before.put_blocks.ensures ∙ ap (λ x. front x (take (length (us k) - len s) (drop (len s) (us k)))) (same5 k))
     ∙ ap₂ (λ x n. front ((x ++ field 5 (big_endians block_entry (block_ones (bits_in x (b s))) n)) ++ field 6 (big_endians sub_block_entry (sub_block_ones (bits_in x (b s))) (subs s))) (xs s)) (same_edges s) (blocks_is s)
 
-pub put-index-spec : {M : Type 1} → statement M
-put-index-spec =
+pub put_index_spec : {M : Type 1} → statement M
+put_index_spec =
     tie.close
     (tie.spec
     bytes-for-requires

@@ -13,34 +13,34 @@ use borrow.Author.Rules.{rules}
 use Rattle.build.proofs.put_shape.Statement.{statement}
 use Rattle.build.proofs.put_shape.Tie as tie
 
-put-width-requires : tie.Need-put-width-requires
+put-width-requires : tie.Need-put_width-requires
 put-width-requires c κs = search rules
 
-sub-put-count : tie.Need-overflow-sub-put-count
+sub-put-count : tie.Need-slice_bounds-put_count-count
 sub-put-count c = search rules
 
-part-put-count-start : tie.Need-slice-bounds-put-count-start
+part-put-count-start : tie.Need-slice_bounds-put_count-start
 part-put-count-start c = search rules
 
-part-put-count-end : tie.Need-slice-bounds-put-count-end
+part-put-count-end : tie.Need-slice_bounds-put_count-end
 part-put-count-end c = search rules
 
-put-count-requires : tie.Need-put-count-requires
+put-count-requires : tie.Need-put_count-requires
 put-count-requires c κs = search rules
 
-sub-put-levels : tie.Need-overflow-sub-put-levels
+sub-put-levels : tie.Need-slice_bounds-put_levels-count
 sub-put-levels c = search rules
 
-part-put-levels-start : tie.Need-slice-bounds-put-levels-start
+part-put-levels-start : tie.Need-slice_bounds-put_levels-start
 part-put-levels-start c = search rules
 
-part-put-levels-end : tie.Need-slice-bounds-put-levels-end
+part-put-levels-end : tie.Need-slice_bounds-put_levels-end
 part-put-levels-end c = search rules
 
-put-levels-requires : tie.Need-put-levels-requires
+put-levels-requires : tie.Need-put_levels-requires
 put-levels-requires c κs = search rules
 
-same_length : tie.Need-same-length
+same_length : tie.Need-shape_of-out
 same_length c = search rules
 
 -- the three fields, at the function's entry
@@ -64,10 +64,10 @@ size3 s =
     let f : ℕ → ℕ = λ (d : ℕ). get_or s.args.ends.now d 0 in
     omega (arith, field_length 3 (big_endians level_entry f s.args.m), length_big_endians level_entry f s.args.m)
 
-abbrev width : tie.After-put-count → tie.After-put-width
+abbrev width : tie.After-put_count → tie.After-put_width
 width c = c.before.before.before.before
 
-abbrev start : tie.After-put-width → tie.Start
+abbrev start : tie.After-put_width → tie.Start
 start c = c.before.before.before.before
 
 returns : tie.Need-returns
@@ -76,11 +76,11 @@ returns c =
     let w = width n in
     let s = start w in
     let xs = s.args.out.now in
-    let two = behind (F1 s) (F2 s) xs w.put-width.last.0 n.put_count.new.0 start2 (size1 s) w.put-width.ensures (omega (arith, length-append (F1 s) (F2 s), size2 s)) n.put_count.ensures in
-    behind (F1 s ++ F2 s) (F3 s) xs _ c.before.before.put-levels.new.0 start3 (size2 s) two (omega (arith, size2 s, size3 s)) c.before.before.put-levels.ensures
+    let two = behind (F1 s) (F2 s) xs w.put_width.last.0 n.put_count.new.out start2 (size1 s) w.put_width.ensures (omega (arith, length-append (F1 s) (F2 s), size2 s)) n.put_count.ensures in
+    behind (F1 s ++ F2 s) (F3 s) xs _ c.before.before.put_levels.new.out start3 (size2 s) two (omega (arith, size2 s, size3 s)) c.before.before.put_levels.ensures
 
-pub put-shape-spec : {M : Type 1} → statement M
-put-shape-spec =
+pub put_shape_spec : {M : Type 1} → statement M
+put_shape_spec =
     tie.close
     (tie.spec
     put-width-requires

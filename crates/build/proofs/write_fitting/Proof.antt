@@ -32,18 +32,18 @@ module _ (s : tie.Start) where
   xs = s.args.out.now
 
   room : end_of m b ≤ length xs
-  room = s.pre.0
+  room = s.requires.0
 
   sealed : HoldsOnly m b l
-  sealed = s.pre.1
+  sealed = s.requires.1
 
 -- where the edges go
-module _ (w : tie.After-edges-start) where
+module _ (w : tie.After-edges_start-at) where
   abbrev start : tie.Start
   start = w.before.before.before.before
 
   abbrev at : ℕ
-  at = w.edges-start.result
+  at = w.edges_start-at.result
 
   abbrev n : ℕ
   n = at + length (l start) - at
@@ -52,11 +52,11 @@ module _ (w : tie.After-edges-start) where
   size = omega (arith, sealed_length (m start) (b start) (l start) (sealed start))
 
   edges_fit : at + length (l start) ≤ length (xs start)
-  edges_fit = omega (arith, w.edges-start.ensures, edges_end (m start) (b start), size, room start)
+  edges_fit = omega (arith, w.edges_start-at.ensures, edges_end (m start) (b start), size, room start)
 
 -- the edges are in their place
 module _ (k : tie.After-copy) where
-  abbrev placed : tie.After-edges-start
+  abbrev placed : tie.After-edges_start-at
   placed = k.before.before
 
   abbrev s : tie.Start
@@ -78,36 +78,36 @@ module _ (k : tie.After-copy) where
   long = ap length copied ∙ omega arith
 
   edges-there : standing (m s) (b s) zs ≡ l s
-  edges-there = stands (m s) (b s) (at placed) (n placed) (xs s) ys placed.edges-start.ensures (size placed) long (room s) ∙ copied
+  edges-there = stands (m s) (b s) (at placed) (n placed) (xs s) ys placed.edges_start-at.ensures (size placed) long (room s) ∙ copied
 
-edges-start-requires : tie.Need-edges-start-requires
+edges-start-requires : tie.Need-edges_start-at-requires
 edges-start-requires c κs = search rules
 
-add-end : tie.Need-overflow-add-end
+add-end : tie.Need-overflow_add-end
 add-end c = omega (arith, edges_fit c)
 
-sub-copy : tie.Need-overflow-sub-copy
+sub-copy : tie.Need-slice_bounds-copy_from_slice-count
 sub-copy c = search rules
 
-part-copy-start : tie.Need-slice-bounds-copy-start
+part-copy-start : tie.Need-slice_bounds-copy_from_slice-start
 part-copy-start c = search rules
 
-part-copy-end : tie.Need-slice-bounds-copy-end
+part-copy-end : tie.Need-slice_bounds-copy_from_slice-end
 part-copy-end c = let f = edges_fit c in search rules
 
-copy-requires : tie.Need-copy-requires
+copy-requires : tie.Need-copy_from_slice-requires
 copy-requires c κs = search rules
 
-write-around-edges-requires : tie.Need-write-around-edges-requires
+write-around-edges-requires : tie.Need-write_around_edges-requires
 write-around-edges-requires c κs =
     let k = c.before.before.before in
     let w = placed k in (
-      omega (arith, length_put (m (s k)) (b (s k)) (at w) (n w) (xs (s k)) (ys k) w.edges-start.ensures (size w) (long k) (room (s k)), room (s k)),
+      omega (arith, length_put (m (s k)) (b (s k)) (at w) (n w) (xs (s k)) (ys k) w.edges_start-at.ensures (size w) (long k) (room (s k)), room (s k)),
       rw (edges-there k) (sealed (s k)),
       (s k).requires.2,
     )
 
-same_length : tie.Need-same-length
+same_length : tie.Need-shape_of-out
 same_length c = search rules
 
 returns : tie.Need-returns
@@ -115,11 +115,11 @@ returns c =
     let a = c.before.before in
     let k = a.before.before.before.before in
     let w = placed k in
-    a.write-around-edges.ensures ∙ ap (λ x. front (encode (entry_held (m (s k)) (b (s k)) x)) (zs k)) (edges-there k)
-    ∙ covered (m (s k)) (b (s k)) (at w) (n w) (xs (s k)) (ys k) w.edges-start.ensures (size w) (long k) (room (s k)) (encode (entry_held (m (s k)) (b (s k)) (l (s k)))) (held_length (m (s k)) (b (s k)) (l (s k)) (held_bits (m (s k)) (b (s k)) (l (s k)) (sealed (s k)).holds))
+    a.write_around_edges.ensures ∙ ap (λ x. front (encode (entry_held (m (s k)) (b (s k)) x)) (zs k)) (edges-there k)
+    ∙ covered (m (s k)) (b (s k)) (at w) (n w) (xs (s k)) (ys k) w.edges_start-at.ensures (size w) (long k) (room (s k)) (encode (entry_held (m (s k)) (b (s k)) (l (s k)))) (held_length (m (s k)) (b (s k)) (l (s k)) (held_bits (m (s k)) (b (s k)) (l (s k)) (sealed (s k)).holds))
 
-pub write-fitting-spec : {M : Type 1} → statement M
-write-fitting-spec =
+pub write_fitting_spec : {M : Type 1} → statement M
+write_fitting_spec =
     tie.close
     (tie.spec
     edges-start-requires

@@ -5,22 +5,22 @@ use borrow.Author.Rules.{rules}
 use Rattle.query.proofs.edge_from.Statement.{statement}
 use Rattle.query.proofs.edge_from.Tie as tie
 
-mul-t6 : tie.Need-overflow-mul-t6
+mul-t6 : tie.Need-overflow_mul-result
 mul-t6 c = search rules
 
-add-t7 : tie.Need-overflow-add-t7
+add-t7 : tie.Need-overflow_add-result
 add-t7 c = search rules
 
-returns : tie.Need-returns
+returns : tie.Need-returns-then-bit
 unfolding edge_from
-returns c = rw (c.before.if1.true, c.if2.true)
+returns c = rw (c.before.if-at.true, c.if-bit.true)
 
-mul-t8 : tie.Need-overflow-mul-t8
+mul-t8 : tie.Need-overflow_mul-result-2
 mul-t8 c = search rules
 
-returns-2 : tie.Need-returns-2
+returns-2 : tie.Need-returns
 unfolding edge_from
-returns-2 c = ⊎_elim (λ w. rw (w.0.taken, w.1.left) (omega arith)) (λ w. rw w.left (omega arith)) c.if1.branch
+returns-2 c = ⊎_elim (λ w. rw (w.0.true, w.1.false) (omega arith)) (λ w. rw w.false (omega arith)) c.else-at.branch
 
-pub edge-from-spec : {M : Type 1} → statement M
-edge-from-spec = tie.close (tie.spec mul-t6 add-t7 returns mul-t8 returns-2)
+pub edge_from_spec : {M : Type 1} → statement M
+edge_from_spec = tie.close (tie.spec mul-t6 add-t7 returns mul-t8 returns-2)

@@ -21,78 +21,78 @@ part s = rest_is s.args.l.now s.args.e.edges
 abbrev start : tie.After-number2 → tie.Start
 start c = c.before.before.before.before.before.before.before.before.before
 
-sub-k : tie.Need-overflow-sub-k
+sub-k : tie.Need-overflow_sub-k
 sub-k c = search rules
 
-block-of-requires : tie.Need-block-of-requires
+block-of-requires : tie.Need-block_of-block-requires
 unfolding edge_count
 block-of-requires c κs =
     let s = c.before.before.before in
     let z = ones_le (edges_of (entry_in s.args.l.now)) in
     (s.requires.0, let y : 0 < s.args.e.bits = omega (arith, z, s.requires.3, s.requires.0.bits) in y)
 
-mul-number8 : tie.Need-overflow-mul-number8
+mul-number8 : tie.Need-overflow_mul-block
 mul-number8 c = search rules
 
-add-number8 : tie.Need-overflow-add-number8
-add-number8 c = let s = c.before.before.before.before.before in omega (arith, (block_at _ _ s.requires.0 _ c.before.Block-of.ensures.0).0, (opens_room _ _ s.requires.0).bytes)
+add-number8 : tie.Need-overflow_add-e
+add-number8 c = let s = c.before.before.before.before.before in omega (arith, (block_at _ _ s.requires.0 _ c.before.block_of-block.ensures.0).0, (opens_room _ _ s.requires.0).bytes)
 
 number8-requires : tie.Need-number8-requires
-number8-requires c κs = let s = c.before.before.before.before.before in (block_at _ _ s.requires.0 _ c.before.Block-of.ensures.0).0
+number8-requires c κs = let s = c.before.before.before.before.before in (block_at _ _ s.requires.0 _ c.before.block_of-block.ensures.0).0
 
-sub-in-block : tie.Need-overflow-sub-in-block
-sub-in-block c = let s = c.before.before.before.before.before.before in let q = c.before.before.Block-of.ensures in omega (arith, c.number8.ensures, (block_at _ _ s.requires.0 _ q.0).1, q.1)
+sub-in-block : tie.Need-overflow_sub-in_block
+sub-in-block c = let s = c.before.before.before.before.before.before in let q = c.before.before.block_of-block.ensures in omega (arith, c.number8.ensures, (block_at _ _ s.requires.0 _ q.0).1, q.1)
 
-sub-block-near-requires : tie.Need-sub-block-near-requires
+sub-block-near-requires : tie.Need-sub_block_near-sub-requires
 sub-block-near-requires c κs = search rules
 
-mul-number2 : tie.Need-overflow-mul-number2
+mul-number2 : tie.Need-overflow_mul-sub
 mul-number2 c = search rules
 
-add-number2 : tie.Need-overflow-add-number2
-add-number2 c = let s = c.before.before.before.before.before.before.before.before in omega (arith, (sub_block_at _ _ s.requires.0 _ c.before.sub-block-near.ensures.1).0, (opens_room _ _ s.requires.0).bytes)
+add-number2 : tie.Need-overflow_add-e-2
+add-number2 c = let s = c.before.before.before.before.before.before.before.before in omega (arith, (sub_block_at _ _ s.requires.0 _ c.before.sub_block_near-sub.ensures.1).0, (opens_room _ _ s.requires.0).bytes)
 
 number2-requires : tie.Need-number2-requires
-number2-requires c κs = let s = c.before.before.before.before.before.before.before.before in (sub_block_at _ _ s.requires.0 _ c.before.sub-block-near.ensures.1).0
+number2-requires c κs = let s = c.before.before.before.before.before.before.before.before in (sub_block_at _ _ s.requires.0 _ c.before.sub_block_near-sub.ensures.1).0
 
-in_block : (c : tie.After-number2) → (c.before.before.before.number8.result ≡ block_ones (edges_of (entry_in (start c).args.l.now)) c.before.before.before.before.before.Block-of.result)
+in_block : (c : tie.After-number2) → (c.before.before.before.number8.result ≡ block_ones (edges_of (entry_in (start c).args.l.now)) c.before.before.before.before.before.block_of-block.result)
     × (c.before.before.before.number8.result ≤ (start c).args.r.0 - 1)
 in_block c =
-    let q = c.before.before.before.before.before.Block-of.ensures in
+    let q = c.before.before.before.before.before.block_of-block.ensures in
     let z = c.before.before.before.number8.ensures ∙ (block_at _ _ (start c).requires.0 _ q.0).1 in
     (z, omega (arith, z, q.1))
 
-in-sub-block : (c : tie.After-number2) → (c.number2.result ≡ sub_block_ones (edges_of (entry_in (start c).args.l.now)) c.before.before.sub-block-near.result)
+in-sub-block : (c : tie.After-number2) → (c.number2.result ≡ sub_block_ones (edges_of (entry_in (start c).args.l.now)) c.before.before.sub_block_near-sub.result)
     × (c.number2.result ≤ (start c).args.r.0 - 1 - c.before.before.before.number8.result)
 in-sub-block c =
-    let q = c.before.before.sub-block-near.ensures in
+    let q = c.before.before.sub_block_near-sub.ensures in
     let z = c.number2.ensures.0 ∙ (sub_block_at _ _ (start c).requires.0 _ q.1).1 in
     (z, omega (arith, z, q.2))
 
 begins : (c : tie.After-number2)
     → numbered (take (length (start c).args.l.now - (start c).args.e.edges) (drop (start c).args.e.edges (start c).args.l.now))
-    (64 * c.before.before.sub-block-near.result) ((start c).args.r.0 - 1 - c.before.before.before.number8.result - c.number2.result)
+    (64 * c.before.before.sub_block_near-sub.result) ((start c).args.r.0 - 1 - c.before.before.before.number8.result - c.number2.result)
     ≡ (start c).args.r.0 - 1
 begins c =
-    let q = c.before.before.sub-block-near.ensures in
+    let q = c.before.before.sub_block_near-sub.ensures in
     start_is _ _ (start c).requires.0 _ (part (start c)) _ _ _ _ _ q.0 q.1 (in_block c).0 (in_block c).1 (in-sub-block c).0 (in-sub-block c).1
 
-sub-left : tie.Need-overflow-sub-left
+sub-left : tie.Need-overflow_sub-left
 sub-left c = (in-sub-block c).1
 
-sub-find-from : tie.Need-overflow-sub-find-from
+sub-find-from : tie.Need-slice_bounds-find_from-count
 sub-find-from c = omega (arith, (opens_room _ _ c.before.before.before.before.before.before.before.before.before.requires.0).edges)
 
-part-find-from-start : tie.Need-slice-bounds-find-from-start
+part-find-from-start : tie.Need-slice_bounds-find_from-start
 part-find-from-start c = omega (arith, (opens_room _ _ c.before.before.before.before.before.before.before.before.before.requires.0).edges)
 
-part-find-from-end : tie.Need-slice-bounds-find-from-end
+part-find-from-end : tie.Need-slice_bounds-find_from-end
 part-find-from-end c = search rules
 
-mul-find-from : tie.Need-overflow-mul-find-from
+mul-find-from : tie.Need-overflow_mul-sub-2
 mul-find-from c = search rules
 
-find-from-requires : tie.Need-find-from-requires
+find-from-requires : tie.Need-find_from-requires
 find-from-requires c κs =
     let s = c.before.before.before.before.before.before.before.before.before.before in
     let p = part s in (
@@ -104,10 +104,10 @@ find-from-requires c κs =
 returns : tie.Need-returns
 returns c =
     let s = c.before.before.before.before.before.before.before.before.before.before.before in
-    rw (begins c.before.before, part s) at c.find-from.ensures
+    rw (begins c.before.before, part s) at c.find_from.ensures
 
-pub find-by-index-spec : {M : Type 1} → statement M
-find-by-index-spec =
+pub find_by_index_spec : {M : Type 1} → statement M
+find_by_index_spec =
     tie.close
     (tie.spec
     sub-k

@@ -6,21 +6,21 @@ use Rattle.query.proofs.Readings.{bound_refused, bound_is, key_room}
 use Rattle.query.proofs.lower_bound_in.Statement.{statement}
 use Rattle.query.proofs.lower_bound_in.Tie as tie
 
-bad-key-requires : tie.Need-bad-key-requires
+bad-key-requires : tie.Need-bad_key-requires
 bad-key-requires c κs = let s = c.before.before.before in omega (arith, (opens_valid _ _ s.requires.0).narrow, s.requires.0.width)
 
-returns : tie.Need-returns
-returns c = let s = c.before.before.before.before.before in bound_refused _ _ _ _ s.requires.0.width c.before.bad_key.ensures c.if1.true
+returns : tie.Need-returns-then-bad_key
+returns c = let s = c.before.before.before.before.before in bound_refused _ _ _ _ s.requires.0.width c.before.bad_key.ensures c.if-bad_key.true
 
-locate-requires : tie.Need-locate-requires
-locate-requires c κs = let s = c.before.before.before.before.before in (s.requires.0, s.requires.1, key_room s.args.key.now _ _ c.before.bad_key.ensures c.if1.false)
+locate-requires : tie.Need-locate-p-requires
+locate-requires c κs = let s = c.before.before.before.before.before in (s.requires.0, s.requires.1, key_room s.args.key.now _ _ c.before.bad_key.ensures c.if-bad_key.false)
 
-returns-2 : tie.Need-returns-2
-returns-2 c = let s = c.before.before.before.before.before.before.before.before.before.before in rw (eq-eqb _ _ (c.if2.true ∙ s.requires.0.count)) at (bound_is _ _ _ _ s.requires.0.width c.before.before.before.before.before.before.bad_key.ensures c.before.before.before.before.before.if1.false _ _ c.before.before.before.before.locate.ensures)
+returns-2 : tie.Need-returns-then-i-e
+returns-2 c = let s = c.before.before.before.before.before.before.before.before.before.before in rw (eq-eqb _ _ (c.if-i-e.true ∙ s.requires.0.count)) at (bound_is _ _ _ _ s.requires.0.width c.before.before.before.before.before.before.bad_key.ensures c.before.before.before.before.before.if-bad_key.false _ _ c.before.before.before.before.locate-p.ensures)
 
-returns-3 : tie.Need-returns-3
-returns-3 c = let s = c.before.before.before.before.before.before.before.before.before.before in rw (ne_eqb _ _ (λ q. c.if2.false (q ∙ sym s.requires.0.count))) at (bound_is _ _ _ _ s.requires.0.width c.before.before.before.before.before.before.bad_key.ensures c.before.before.before.before.before.if1.false _ _ c.before.before.before.before.locate.ensures)
+returns-3 : tie.Need-returns
+returns-3 c = let s = c.before.before.before.before.before.before.before.before.before.before in rw (ne_eqb _ _ (λ q. c.if-i-e.false (q ∙ sym s.requires.0.count))) at (bound_is _ _ _ _ s.requires.0.width c.before.before.before.before.before.before.bad_key.ensures c.before.before.before.before.before.if-bad_key.false _ _ c.before.before.before.before.locate-p.ensures)
 
-pub lower-bound-in-spec : {M : Type 1} → statement M
-lower-bound-in-spec =
+pub lower_bound_in_spec : {M : Type 1} → statement M
+lower_bound_in_spec =
     tie.close (tie.spec bad-key-requires returns locate-requires returns-2 returns-3)

@@ -10,13 +10,13 @@ use Rattle.query.proofs.Ascent.{UpTo, up_start, turn_in, turn_level, turn_next, 
 use Rattle.query.proofs.path_at.Statement.{statement}
 use Rattle.query.proofs.path_at.Tie as tie
 
-abbrev invariant-loop : tie.invariant-loop
+abbrev invariant-loop : tie.invariant-loop-d
 invariant-loop l t places e offsets₀ n r₀ d₀ end₀ last₀ guess₀ offsets r d end last guess = UpTo (entry_in l) n d r offsets₀ offsets × (end ≡ level_start (entry_in l) d)
 
-abbrev decreases-loop : tie.decreases-loop
+abbrev decreases-loop : tie.decreases-loop-d
 decreases-loop l t places e offsets₀ n r₀ d₀ end₀ last₀ guess₀ offsets r d end last guess = d
 
-abbrev start : tie.At-loop invariant-loop decreases-loop → tie.Start invariant-loop decreases-loop
+abbrev start : tie.At-loop-d invariant-loop decreases-loop → tie.Start invariant-loop decreases-loop
 start l = l.before.before.before.before.before.before
 
 valid : (s : tie.Start invariant-loop decreases-loop) → Valid (entry_in s.args.l.now)
@@ -28,63 +28,63 @@ few s = omega (arith, s.requires.3, s.requires.0.count)
 long : (s : tie.Start invariant-loop decreases-loop) → (entry_in s.args.l.now).width ≤ length s.args.offsets.now
 long s = omega (arith, s.requires.4, s.requires.0.width)
 
-add_r : tie.Need-overflow-add-r invariant-loop decreases-loop
+add_r : tie.Need-overflow_add-r invariant-loop decreases-loop
 add_r c = let s = c.before.before.before.before.before in omega (arith, (up_start _ (valid s) _ (few s) s.args.offsets.now (long s) _ _ s.requires.0.width s.requires.0.bits).0, (valid s).few)
 
-loop-holds : tie.Need-loop-init invariant-loop decreases-loop
+loop-holds : tie.Need-loop-d-init invariant-loop decreases-loop
 loop-holds c =
     let s = c.before.before.before.before.before in
     ((up_start _ (valid s) _ (few s) _ (long s) _ _ s.requires.0.width s.requires.0.bits).1, level_last _ _ _ s.requires.0.width s.requires.0.bits)
 
-sub-d : tie.Need-overflow-sub-d invariant-loop decreases-loop
+sub-d : tie.Need-overflow_sub-d invariant-loop decreases-loop
 sub-d c = omega arith
 
-level-start-requires : tie.Need-level-start-requires invariant-loop decreases-loop
-level-start-requires c κs = let l = c.before in let s = start l in (s.pre.0, omega (arith, l.loop.invariant.0.low, s.pre.0.width))
+level-start-requires : tie.Need-level_start-start-requires invariant-loop decreases-loop
+level-start-requires c κs = let l = c.before in let s = start l in (s.requires.0, omega (arith, l.loop-d.invariant.0.low, s.requires.0.width))
 
-sub-k : tie.Need-overflow-sub-k invariant-loop decreases-loop
+sub-k : tie.Need-overflow_sub-k invariant-loop decreases-loop
 sub-k c =
     let t = c.before in
     let l = t.before in
     let s = start l in
-    omega (arith, (turn_level _ (valid s) _ (few s) _ (long s) _ _ _ l.loop.invariant.0 t.loop-test.true).0, l.loop.invariant.1)
+    omega (arith, (turn_level _ (valid s) _ (few s) _ (long s) _ _ _ l.loop-d.invariant.0 t.loop-d-test.true).0, l.loop-d.invariant.1)
 
-edge-up-requires : tie.Need-edge-up-requires invariant-loop decreases-loop
+edge-up-requires : tie.Need-edge_up-o-requires invariant-loop decreases-loop
 edge-up-requires c κs =
     let t = c.before in
     let l = t.before in
     let s = start l in
-    let z = turn_in _ (valid s) _ (few s) _ (long s) _ _ _ l.loop.invariant.0 t.loop-test.true in
-    let y = (turn_level _ (valid s) _ (few s) _ (long s) _ _ _ l.loop.invariant.0 t.loop-test.true).1 in
-    (s.pre.0, s.pre.1, s.pre.2, z.0, z.1, rw (c.level-start.ensures, l.loop.invariant.1) y)
+    let z = turn_in _ (valid s) _ (few s) _ (long s) _ _ _ l.loop-d.invariant.0 t.loop-d-test.true in
+    let y = (turn_level _ (valid s) _ (few s) _ (long s) _ _ _ l.loop-d.invariant.0 t.loop-d-test.true).1 in
+    (s.requires.0, s.requires.1, s.requires.2, z.0, z.1, rw (c.level_start-start.ensures, l.loop-d.invariant.1) y)
 
-mul-offsets : tie.Need-overflow-mul-offsets invariant-loop decreases-loop
-mul-offsets c = let l = c.before.before.before in omega (arith, l.loop.invariant.0.low, (valid (start l)).narrow)
+mul-offsets : tie.Need-offset_bounds-offsets-d invariant-loop decreases-loop
+mul-offsets c = let l = c.before.before.before in omega (arith, l.loop-d.invariant.0.low, (valid (start l)).narrow)
 
-slice-write-offsets : tie.Need-slice-write-offsets invariant-loop decreases-loop
-slice-write-offsets c = let l = c.before.before.before in omega (arith, l.loop.invariant.0.low, l.loop.invariant.0.size, long (start l), c.before.before.loop-test.true)
+slice-write-offsets : tie.Need-bounds-offsets-d invariant-loop decreases-loop
+slice-write-offsets c = let l = c.before.before.before in omega (arith, l.loop-d.invariant.0.low, l.loop-d.invariant.0.size, long (start l), c.before.before.loop-d-test.true)
 
-guess-from-requires : tie.Need-guess-from-requires invariant-loop decreases-loop
-guess-from-requires c κs = let s = start c.before.before.before in omega (arith, c.edge-up.ensures, edge_few (entry_in s.args.l.now) (c.before.before.before.loop.r - 1) (valid s))
+guess-from-requires : tie.Need-guess_from-next-requires invariant-loop decreases-loop
+guess-from-requires c κs = let s = start c.before.before.before in omega (arith, c.edge_up-o.ensures, edge_few (entry_in s.args.l.now) (c.before.before.before.loop-d.r - 1) (valid s))
 
-loop-less : tie.Need-loop-smaller invariant-loop decreases-loop
+loop-less : tie.Need-loop-d-smaller invariant-loop decreases-loop
 loop-less c = omega arith
 
-loop-again : tie.Need-loop-preserved invariant-loop decreases-loop
+loop-again : tie.Need-loop-d-preserved invariant-loop decreases-loop
 loop-again c =
     let t = c.before.before.before in
     let l = t.before in
     let s = start l in
-    (turn_next _ (valid s) _ (few s) _ (long s) _ _ _ l.loop.invariant.0 t.loop-test.true _ c.before.edge-up.ensures, c.before.before.level-start.ensures)
+    (turn_next _ (valid s) _ (few s) _ (long s) _ _ _ l.loop-d.invariant.0 t.loop-d-test.true _ c.before.edge_up-o.ensures, c.before.before.level_start-start.ensures)
 
-same_length : tie.Need-same-length invariant-loop decreases-loop
-same_length c = c.before.loop.invariant.0.size
+same_length : tie.Need-shape_of-offsets invariant-loop decreases-loop
+same_length c = c.before.loop-d.invariant.0.size
 
 returns : tie.Need-returns invariant-loop decreases-loop
-returns c = let l = c.before in let s = start l in up_end _ (valid s) _ (few s) _ (long s) _ _ _ l.loop.invariant.0 c.loop-test.false
+returns c = let l = c.before in let s = start l in up_end _ (valid s) _ (few s) _ (long s) _ _ _ l.loop-d.invariant.0 c.loop-d-test.false
 
-pub path-at-spec : {M : Type 1} → statement M
-path-at-spec =
+pub path_at_spec : {M : Type 1} → statement M
+path_at_spec =
     tie.close
     (tie.spec
     invariant-loop

@@ -13,66 +13,66 @@ use Rattle.query.proofs.sub_block_near.Tie as tie
 few : (s : tie.Start) → block_bits * s.args.block < max_edges
 few s = omega (arith, s.requires.1, (opens_room _ _ s.requires.0).few)
 
-sub-block-of-requires : tie.Need-sub-block-of-requires
+sub-block-of-requires : tie.Need-sub_block_of-requires
 sub-block-of-requires c κs = search rules
 
-returns : tie.Need-returns
+returns : tie.Need-returns-then-hint-block
 returns c = search rules
 
-begins-by-requires : tie.Need-begins-by-requires
-begins-by-requires c κs = let s = c.before.before in (s.requires.0, omega (arith, few s, c.if1.false))
+begins-by-requires : tie.Need-begins_by-requires
+begins-by-requires c κs = let s = c.before.before in (s.requires.0, omega (arith, few s, c.if-hint-block.false))
 
-add-begins-by : tie.Need-overflow-add-begins-by
+add-begins-by : tie.Need-overflow_add-hint
 add-begins-by c = search rules
 
-begins-by-requires-2 : tie.Need-begins-by-requires-2
-begins-by-requires-2 c κs = let s = c.before.before.before.before in (s.requires.0, omega (arith, few s, c.before.before.if1.false))
+begins-by-requires-2 : tie.Need-begins_by-requires-then-begins_by
+begins-by-requires-2 c κs = let s = c.before.before.before.before in (s.requires.0, omega (arith, few s, c.before.before.if-hint-block.false))
 
-sub-block-of-requires-2 : tie.Need-sub-block-of-requires-2
+sub-block-of-requires-2 : tie.Need-sub_block_of-requires-then-begins_by-2
 sub-block-of-requires-2 c κs = search rules
 
-returns-2 : tie.Need-returns-2
+returns-2 : tie.Need-returns-then-begins_by-2
 returns-2 c = search rules
 
-returns-3 : tie.Need-returns-3
+returns-3 : tie.Need-returns-then-begins_by
 returns-3 c =
-    let q = both _ _ (sym c.before.before.before.begins-by.ensures ∙ c.before.before.if2.true) in
-    (c.before.before.before.before.if1.false, yes_lt _ _ q.0, leb-true _ _ q.1, λ h g. more_by _ _ _ _ (sym c.before.begins-by2.ensures ∙ c.if3.false) g)
+    let q = both _ _ (sym c.before.before.before.begins_by.ensures ∙ c.before.before.if-begins_by.true) in
+    (c.before.before.before.before.if-hint-block.false, yes_lt _ _ q.0, leb-true _ _ q.1, λ h g. more_by _ _ _ _ (sym c.before.begins_by-then-begins_by.ensures ∙ c.if-begins_by-2.false) g)
 
-sub-block-of-requires-3 : tie.Need-sub-block-of-requires-3
+sub-block-of-requires-3 : tie.Need-sub_block_of-requires-then-hint-eq0
 sub-block-of-requires-3 c κs = search rules
 
-returns-4 : tie.Need-returns-4
+returns-4 : tie.Need-returns-then-hint-eq0
 returns-4 c = search rules
 
-sub-begins-by : tie.Need-overflow-sub-begins-by
+sub-begins-by : tie.Need-overflow_sub-hint
 sub-begins-by c = search rules
 
-begins-by-requires-3 : tie.Need-begins-by-requires-3
-begins-by-requires-3 c κs = let s = c.before.before.before.before.before in (s.requires.0, omega (arith, few s, c.before.before.before.if1.false))
+begins-by-requires-3 : tie.Need-begins_by-requires-2
+begins-by-requires-3 c κs = let s = c.before.before.before.before.before in (s.requires.0, omega (arith, few s, c.before.before.before.if-hint-block.false))
 
-sub-result : tie.Need-overflow-sub-result
+sub-result : tie.Need-overflow_sub-result
 sub-result c = search rules
 
-returns-5 : tie.Need-returns-5
+returns-5 : tie.Need-returns-then-begins_by-3
 returns-5 c =
     let s = c.before.before.before.before.before.before.before in
     let z : s.args.hint - 1 + 1 ≡ s.args.hint = omega arith in
-    let q = both _ _ (sym c.before.begins-by3.ensures ∙ c.if5.true) in (
-      omega (arith, c.before.before.before.before.before.if1.false, c.before.before.if4.false),
+    let q = both _ _ (sym c.before.begins_by-2.ensures ∙ c.if-begins_by-3.true) in (
+      omega (arith, c.before.before.before.before.before.if-hint-block.false, c.before.before.if-hint-eq0.false),
       yes_lt _ _ q.0,
       leb-true _ _ q.1,
-      λ h g. rw z (more_by _ _ _ _ (sym c.before.before.before.before.begins-by.ensures ∙ c.before.before.before.if2.false) (rw z at g)),
+      λ h g. rw z (more_by _ _ _ _ (sym c.before.before.before.before.begins_by.ensures ∙ c.before.before.before.if-begins_by.false) (rw z at g)),
     )
 
-sub-block-of-requires-4 : tie.Need-sub-block-of-requires-4
+sub-block-of-requires-4 : tie.Need-sub_block_of-requires-2
 sub-block-of-requires-4 c κs = search rules
 
-returns-6 : tie.Need-returns-6
+returns-6 : tie.Need-returns
 returns-6 c = search rules
 
-pub sub-block-near-spec : {M : Type 1} → statement M
-sub-block-near-spec =
+pub sub_block_near_spec : {M : Type 1} → statement M
+sub_block_near_spec =
     tie.close
     (tie.spec
     sub-block-of-requires

@@ -4,121 +4,121 @@ use Rattle.query.proofs.Writing.{byte_first, byte_next, byte_all}
 use Rattle.query.proofs.whole_byte.Statement.{statement}
 use Rattle.query.proofs.whole_byte.Tie as tie
 
-mul_at : tie.Need-overflow-mul-at
+mul_at : tie.Need-overflow_mul-at
 mul_at c = omega arith
 
-mul-a : tie.Need-overflow-mul-a
+mul-a : tie.Need-offset_bounds-offsets-at
 mul-a c = omega arith
 
-shared-slice-read-a : tie.Need-shared-slice-read-a
+shared-slice-read-a : tie.Need-bounds-offsets-at
 shared-slice-read-a c = omega arith
 
-mul-b : tie.Need-overflow-mul-b
+mul-b : tie.Need-overflow_mul-b
 mul-b c = omega arith
 
-add-b : tie.Need-overflow-add-b
+add-b : tie.Need-overflow_add-b
 add-b c = omega arith
 
-mul-b-2 : tie.Need-overflow-mul-b-2
+mul-b-2 : tie.Need-offset_bounds-offsets-at-2
 mul-b-2 c = omega arith
 
-shared-slice-read-b : tie.Need-shared-slice-read-b
+shared-slice-read-b : tie.Need-bounds-offsets-at-2
 shared-slice-read-b c = omega arith
 
-add-b-2 : tie.Need-overflow-add-b-2
+add-b-2 : tie.Need-overflow_add-b-2
 add-b-2 c = omega arith
 
-mul-c : tie.Need-overflow-mul-c
+mul-c : tie.Need-overflow_mul-c
 mul-c c = omega arith
 
-add-c : tie.Need-overflow-add-c
+add-c : tie.Need-overflow_add-c
 add-c c = omega arith
 
-mul-c-2 : tie.Need-overflow-mul-c-2
+mul-c-2 : tie.Need-offset_bounds-offsets-at-3
 mul-c-2 c = omega arith
 
-shared-slice-read-c : tie.Need-shared-slice-read-c
+shared-slice-read-c : tie.Need-bounds-offsets-at-3
 shared-slice-read-c c = omega arith
 
-add-c-2 : tie.Need-overflow-add-c-2
+add-c-2 : tie.Need-overflow_add-c-2
 add-c-2 c = omega arith
 
-mul-d : tie.Need-overflow-mul-d
+mul-d : tie.Need-overflow_mul-d
 mul-d c = omega arith
 
-add-d : tie.Need-overflow-add-d
+add-d : tie.Need-overflow_add-d
 add-d c = omega arith
 
-mul-d-2 : tie.Need-overflow-mul-d-2
+mul-d-2 : tie.Need-offset_bounds-offsets-at-4
 mul-d-2 c = omega arith
 
-shared-slice-read-d : tie.Need-shared-slice-read-d
+shared-slice-read-d : tie.Need-bounds-offsets-at-4
 shared-slice-read-d c = omega arith
 
-add-d-2 : tie.Need-overflow-add-d-2
+add-d-2 : tie.Need-overflow_add-d-2
 add-d-2 c = omega arith
 
-mul-e : tie.Need-overflow-mul-e
+mul-e : tie.Need-overflow_mul-e
 mul-e c = omega arith
 
-add-e : tie.Need-overflow-add-e
+add-e : tie.Need-overflow_add-e
 add-e c = omega arith
 
-mul-e-2 : tie.Need-overflow-mul-e-2
+mul-e-2 : tie.Need-offset_bounds-offsets-at-5
 mul-e-2 c = omega arith
 
-shared-slice-read-e : tie.Need-shared-slice-read-e
+shared-slice-read-e : tie.Need-bounds-offsets-at-5
 shared-slice-read-e c = omega arith
 
-add-e-2 : tie.Need-overflow-add-e-2
+add-e-2 : tie.Need-overflow_add-e-2
 add-e-2 c = omega arith
 
-mul-f : tie.Need-overflow-mul-f
+mul-f : tie.Need-overflow_mul-f
 mul-f c = omega arith
 
-add-f : tie.Need-overflow-add-f
+add-f : tie.Need-overflow_add-f
 add-f c = omega arith
 
-mul-f-2 : tie.Need-overflow-mul-f-2
+mul-f-2 : tie.Need-offset_bounds-offsets-at-6
 mul-f-2 c = omega arith
 
-shared-slice-read-f : tie.Need-shared-slice-read-f
+shared-slice-read-f : tie.Need-bounds-offsets-at-6
 shared-slice-read-f c = omega arith
 
-add-f-2 : tie.Need-overflow-add-f-2
+add-f-2 : tie.Need-overflow_add-f-2
 add-f-2 c = omega arith
 
-mul-g : tie.Need-overflow-mul-g
+mul-g : tie.Need-overflow_mul-g
 mul-g c = omega arith
 
-add-g : tie.Need-overflow-add-g
+add-g : tie.Need-overflow_add-g
 add-g c = omega arith
 
-mul-g-2 : tie.Need-overflow-mul-g-2
+mul-g-2 : tie.Need-offset_bounds-offsets-at-7
 mul-g-2 c = omega arith
 
-shared-slice-read-g : tie.Need-shared-slice-read-g
+shared-slice-read-g : tie.Need-bounds-offsets-at-7
 shared-slice-read-g c = omega arith
 
-add-g-2 : tie.Need-overflow-add-g-2
+add-g-2 : tie.Need-overflow_add-g-2
 add-g-2 c = omega arith
 
-mul-h : tie.Need-overflow-mul-h
+mul-h : tie.Need-overflow_mul-h
 mul-h c = omega arith
 
-add-h : tie.Need-overflow-add-h
+add-h : tie.Need-overflow_add-h
 add-h c = omega arith
 
-mul-h-2 : tie.Need-overflow-mul-h-2
+mul-h-2 : tie.Need-offset_bounds-offsets-at-8
 mul-h-2 c = omega arith
 
-shared-slice-read-h : tie.Need-shared-slice-read-h
+shared-slice-read-h : tie.Need-bounds-offsets-at-8
 shared-slice-read-h c = omega arith
 
-add-h-2 : tie.Need-overflow-add-h-2
+add-h-2 : tie.Need-overflow_add-h-2
 add-h-2 c = omega arith
 
-cast-result : tie.Need-overflow-cast-result
+cast-result : tie.Need-overflow_cast-result
 cast-result c = omega arith
 
 returns : tie.Need-returns
@@ -135,8 +135,8 @@ returns c =
     (byte_next os a.m a.j 1 _ (omega arith) (byte_first os a.m a.j (omega arith)))))))))
     refl
 
-pub whole-byte-spec : {M : Type 1} → statement M
-whole-byte-spec =
+pub whole_byte_spec : {M : Type 1} → statement M
+whole_byte_spec =
     tie.close
     (tie.spec
     mul_at
