@@ -16,7 +16,7 @@ end-of-requires c κs =
     (placed_self _ _ _ _ n, omega (arith, n.width, s.requires.0), omega (arith, n.bits, s.requires.1))
 
 returns : tie.Need-returns
-returns c = let n = c.before.new-e.ensures in c.end_of_lem.ensures ∙ ap₂ end_of n.width n.bits
+returns c = let n = c.before.new-e.ensures in c.end_of.ensures ∙ ap₂ end_of n.width n.bits
 
 pub length_of_spec : {M : Type 1} → statement M
 length_of_spec = tie.close (tie.spec new-requires end-of-requires returns)

@@ -78,10 +78,10 @@ module _ (k : tie.After-put_sub_blocks) where
   start = k.before.before.before.before
 
   abbrev us : Bytes
-  us = k.put_sub_blocks.last.0
+  us = k.put_sub_blocks.new.out
 
   abbrev bases : List ℕ
-  bases = k.put_sub_blocks.last.1.1.1.1.0
+  bases = k.put_sub_blocks.new.bases
 
   last : us ≡ front (take (at6 start) (xs start) ++ F6 start) (xs start)
   last =
@@ -149,7 +149,7 @@ put-blocks-requires c κs =
     let k = c.before.before.before.before.before in
     let s = start k in
     let f = part_us (F5 s) (F6 s) (xs s) (us k) (us k) (len s) (at6 s) (place s) (fits s) (last k) in
-    let n = k.put_sub_blocks.auto.1.1.1.1.0 in
+    let n = k.put_sub_blocks.auto.bases in
     ((omega (arith, f, place s), omega (arith, n, few s), omega (arith, n)), small k)
 
 same_length : tie.Need-shape_of-out

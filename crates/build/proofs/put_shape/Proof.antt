@@ -76,7 +76,7 @@ returns c =
     let w = width n in
     let s = start w in
     let xs = s.args.out.now in
-    let two = behind (F1 s) (F2 s) xs w.put_width.last.0 n.put_count.new.out start2 (size1 s) w.put_width.ensures (omega (arith, length-append (F1 s) (F2 s), size2 s)) n.put_count.ensures in
+    let two = behind (F1 s) (F2 s) xs w.put_width.new.out n.put_count.new.out start2 (size1 s) w.put_width.ensures (omega (arith, length-append (F1 s) (F2 s), size2 s)) n.put_count.ensures in
     behind (F1 s ++ F2 s) (F3 s) xs _ c.before.before.put_levels.new.out start3 (size2 s) two (omega (arith, size2 s, size3 s)) c.before.before.put_levels.ensures
 
 pub put_shape_spec : {M : Type 1} → statement M

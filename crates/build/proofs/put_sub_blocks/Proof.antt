@@ -90,10 +90,10 @@ module _ (p : tie.After-put_head invariant-loop decreases-loop) where
   xs = s.args.out.now
 
   abbrev zs : Bytes
-  zs = put_mid at (length xs - at) xs p.put_head.last.0
+  zs = put_mid at (length xs - at) xs p.put_head.new.out
 
   headed : zs ≡ front (take at xs ++ head (subs q)) xs
-  headed = put_at at (head (subs q)) xs p.put_head.last.0 (omega (arith, room q, length-head (subs q))) p.put_head.ensures
+  headed = put_at at (head (subs q)) xs p.put_head.new.out (omega (arith, room q, length-head (subs q))) p.put_head.ensures
 
   long : length zs ≡ length xs
   long =

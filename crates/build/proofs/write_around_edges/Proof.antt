@@ -81,7 +81,7 @@ module _ (v : tie.After-level_ends-count) where
   s = start placed
 
   abbrev ends : List ℕ
-  ends = v.level_ends-count.last.1.1.1.1.0
+  ends = v.level_ends-count.new.ends
 
   abbrev shape : Bytes
   shape = shape_fields (m s) v.level_ends-count.result ends
@@ -104,7 +104,7 @@ module _ (p : tie.After-put_shape) where
   levels = p.before.before.before.before
 
   abbrev zs : Bytes
-  zs = p.put_shape.last.0
+  zs = p.put_shape.new.out
 
   abbrev n : ℕ
   n = at (placed levels) - head_bytes

@@ -3,6 +3,7 @@ use native.Mathlib.Omega.{arith}
 use Rattle.query.specs.Descent.{edge_from}
 use borrow.Author.Rules.{rules}
 use Rattle.query.proofs.edge_from.Statement.{statement}
+use Rattle.query.proofs.edge_from.Lts.{else-at-via-then-at+else-bit, else-at-via-else-at}
 use Rattle.query.proofs.edge_from.Tie as tie
 
 mul-t6 : tie.Need-overflow_mul-result
@@ -20,7 +21,11 @@ mul-t8 c = search rules
 
 returns-2 : tie.Need-returns
 unfolding edge_from
-returns-2 c = ⊎_elim (λ w. rw (w.0.true, w.1.false) (omega arith)) (λ w. rw w.false (omega arith)) c.else-at.branch
+returns-2 c =
+    elim c.else-at.branch [
+      | else-at-via-then-at+else-bit w ↦ rw (w.if-at.true, w.if-bit.false) (omega arith)
+      | else-at-via-else-at w ↦ rw w.if-at.false (omega arith)
+    ]
 
 pub edge_from_spec : {M : Type 1} → statement M
 edge_from_spec = tie.close (tie.spec mul-t6 add-t7 returns mul-t8 returns-2)

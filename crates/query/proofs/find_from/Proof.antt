@@ -19,11 +19,11 @@ abbrev begin : tie.At-loop-c invariant-loop decreases-loop → tie.Start invaria
 begin l = l.before.before.before.before
 
 first : (s : tie.Start invariant-loop decreases-loop) → s.args.from + 8 < length s.args.edges.now
-first s = in_words s.args.edges.now s.args.from s.args.false s.requires.2
+first s = in_words s.args.edges.now s.args.from s.args.left s.requires.2
 
 stays : (t : tie.In-loop-c invariant-loop decreases-loop)
     → numbered (begin t.before).args.edges.now (t.before.loop-c.i + 8) (t.before.loop-c.k - t.before.loop-c.c)
-    ≡ numbered (begin t.before).args.edges.now (begin t.before).args.from (begin t.before).args.false
+    ≡ numbered (begin t.before).args.edges.now (begin t.before).args.from (begin t.before).args.left
 stays t = next_word (begin t.before).args.edges.now t.before.loop-c.i t.before.loop-c.k t.before.loop-c.c t.before.loop-c.invariant.1 t.loop-c-test.true ∙ t.before.loop-c.invariant.2
 
 further : (t : tie.In-loop-c invariant-loop decreases-loop) → t.before.loop-c.i + 8 + 8 < length (begin t.before).args.edges.now

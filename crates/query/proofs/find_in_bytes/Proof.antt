@@ -20,7 +20,7 @@ begin l = l.before.before.before.before.before
 
 stays : (t : tie.In-loop-c invariant-loop decreases-loop)
     → numbered (begin t.before).args.edges.now (t.before.loop-c.i + 1) (t.before.loop-c.k - t.before.loop-c.c)
-    ≡ numbered (begin t.before).args.edges.now (begin t.before).args.from (begin t.before).args.false
+    ≡ numbered (begin t.before).args.edges.now (begin t.before).args.from (begin t.before).args.left
 stays t = next_byte (begin t.before).args.edges.now t.before.loop-c.i t.before.loop-c.k t.before.loop-c.c t.before.loop-c.invariant.1 t.loop-c-test.true ∙ t.before.loop-c.invariant.2
 
 further : (t : tie.In-loop-c invariant-loop decreases-loop) → t.before.loop-c.i + 1 < length (begin t.before).args.edges.now
@@ -30,13 +30,13 @@ further t =
     in_bytes s.args.edges.now (t.before.loop-c.i + 1) (t.before.loop-c.k - t.before.loop-c.c) (omega (arith, z, s.requires.2))
 
 shared-slice-read-ones-in : tie.Need-bounds-edges-i invariant-loop decreases-loop
-shared-slice-read-ones-in c = let s = c.before.before.before in in_bytes s.args.edges.now s.args.from s.args.false s.requires.2
+shared-slice-read-ones-in c = let s = c.before.before.before in in_bytes s.args.edges.now s.args.from s.args.left s.requires.2
 
 ones-in-requires : tie.Need-ones_in-c-requires invariant-loop decreases-loop
 ones-in-requires c κs = c.before.before.before.requires.0
 
 loop-holds : tie.Need-loop-c-init invariant-loop decreases-loop
-loop-holds c = let s = c.before.before.before.before in (in_bytes s.args.edges.now s.args.from s.args.false s.requires.2, c.ones_in_lem.ensures, refl)
+loop-holds c = let s = c.before.before.before.before in (in_bytes s.args.edges.now s.args.from s.args.left s.requires.2, c.ones_in-c.ensures, refl)
 
 add-i : tie.Need-overflow_add-i invariant-loop decreases-loop
 add-i c = omega (arith, (begin c.before).requires.1)
