@@ -50,7 +50,7 @@ cast-x : tie.Need-overflow_cast-x invariant-loop decreases-loop
 cast-x c = omega (arith, c.shared_slice_known-in-loop-i-1.given c.before.before.loop-i.i)
 
 shared-slice-read-n : tie.Need-bounds-t-x invariant-loop decreases-loop
-shared-slice-read-n c = omega (arith, small c, c.before.before.before.before.before.before.before.requires.1.size)
+shared-slice-read-n c = omega (arith, c.shared_slice_known-in-loop-i-1.given c.loop-i.i, c.requires.1.size)
 
 cast-n : tie.Need-overflow_cast-n invariant-loop decreases-loop
 cast-n c = omega (arith, c.shared_slice_known-in-loop-i-2-1.given (byte c))

@@ -184,16 +184,16 @@ slice-reshare-prefix-count-to : tie.Need-slice_bounds-count_to-end invariant-loo
 slice-reshare-prefix-count-to c = omega (arith, ap length (same_edges c.before), length-l c.before, length-take (len (known c.before)) c.before.loop-j.out)
 
 slice-aggregate-count-to : tie.Need-slice_bounds-count_to-end-in-loop-j invariant-loop decreases-loop
-slice-aggregate-count-to c = let a = c.before.before in sym (ap length (same_edges a) ∙ length-l a)
+slice-aggregate-count-to c = let a = c.before in sym (ap length (same_edges a) ∙ length-l a)
 
 mul-count-to : tie.Need-overflow_mul-j invariant-loop decreases-loop
-mul-count-to c = omega (arith, (start c.before.before).requires.2)
+mul-count-to c = omega (arith, (start c.before).requires.2)
 
 count-to-requires : tie.Need-count_to-seen-requires invariant-loop decreases-loop
 count-to-requires c κs =
-    let a = c.before.before in
+    let a = c.before in
     let p = (start a).requires in
-    rw (same_edges a) (a.loop.invariant.0.0, p.3, a.loop.invariant.0.1, omega (arith, length-l a, few (known a), enough (known a)), omega (arith, length-l a, few (known a), p.2))
+    rw (same_edges a) (a.loop-j.invariant.0.0, p.3, a.loop-j.invariant.0.1, omega (arith, length-l a, few (known a), enough (known a)), omega (arith, length-l a, few (known a), p.2))
 
 block-base-requires : tie.Need-block_base-base-requires invariant-loop decreases-loop
 block-base-requires c κs = tt
@@ -204,7 +204,7 @@ next-block j z = elim (dec_le ((j + 1) % 128) 0) [ yes y ↦ absurd (z (omega ar
 -- what is counted so far, and the base: the set bits before the sub-block and before its block
 module _ (c : tie.After-block_base-base invariant-loop decreases-loop) where
   abbrev loop : tie.At-loop-j invariant-loop decreases-loop
-  loop = c.before.before.before.before
+  loop = c.before.before.before
 
   abbrev e : List Bool
   e = bits_in (l loop) (start loop).args.b

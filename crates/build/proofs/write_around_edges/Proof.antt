@@ -75,7 +75,7 @@ module _ (w : tie.After-bytes_for) where
 -- the shape is known
 module _ (v : tie.After-level_ends-count) where
   abbrev placed : tie.After-bytes_for
-  placed = v.before.before.before.before.before
+  placed = v.before.before.before.before
 
   abbrev s : tie.Start
   s = start placed
@@ -151,16 +151,16 @@ part-level-ends-start : tie.Need-slice_bounds-level_ends-start
 part-level-ends-start c = search rules
 
 part-level-ends-end : tie.Need-slice_bounds-level_ends-end
-part-level-ends-end c = let w = c.before.before in let f = edges_fit w in let r = room (start w) in search rules
+part-level-ends-end c = let w = c.before in let f = edges_fit w in let r = room (start w) in search rules
 
 slice-aggregate-level-ends : tie.Need-slice_bounds-level_ends-end-2
 slice-aggregate-level-ends c = search rules
 
 level-ends-requires : tie.Need-level_ends-count-requires
 level-ends-requires c κs =
-    let w = c.before.before.before.before in
+    let w = c.before.before.before in
     let s = start w in
-    rw (there w) ((sealed s).holds, s.requires.2, sealed_small (m s) (b s) (l s) (sealed s), omega (arith, (sealed s).holds.narrow, c.before.before.before.no-ends.ensures))
+    rw (there w) ((sealed s).holds, s.requires.2, sealed_small (m s) (b s) (l s) (sealed s), omega (arith, (sealed s).holds.narrow, c.no_ends-ends.ensures))
 
 slice-aggregate-put-shape : tie.Need-slice_bounds-put_shape-end
 slice-aggregate-put-shape c = search rules

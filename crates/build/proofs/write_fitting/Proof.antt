@@ -55,7 +55,7 @@ module _ (w : tie.After-edges_start-at) where
   edges_fit = omega (arith, w.edges_start-at.ensures, edges_end (m start) (b start), size, room start)
 
 -- the edges are in their place
-module _ (k : tie.After-copy) where
+module _ (k : tie.After-copy_from_slice) where
   abbrev placed : tie.After-edges_start-at
   placed = k.before.before
 
@@ -63,16 +63,13 @@ module _ (k : tie.After-copy) where
   s = start placed
 
   abbrev ys : Bytes
-  ys = k.copy.last.1.0
+  ys = k.copy_from_slice.new.self
 
   abbrev zs : Bytes
   zs = put_mid (at placed) (n placed) (xs s) ys
 
   copied : ys ≡ l s
-  copied =
-      let x : Bytes = take (n placed) (drop (at placed) (xs s)) in
-      let z : length x ≡ n placed = mid_len (at placed) (at placed + length (l s)) (xs s) (edges_fit placed) in
-      k.copy.ensures.1 ∙ rw (take-length (l s), drop_of_length-le x {i = length (l s)} (omega (arith, z))) (append-nil (l s))
+  copied = k.copy_from_slice.ensures.1
 
   long : length ys ≡ n placed
   long = ap length copied ∙ omega arith
