@@ -4,19 +4,19 @@ use borrow.Author.Rules.{rules}
 use Rattle.cursor.proofs.at_member.Statement.{statement}
 use Rattle.cursor.proofs.at_member.Tie as tie
 
-is-path-requires : tie.Need-is-path-requires
+is-path-requires : tie.Need-is_path-requires
 is-path-requires c κs = search rules
 
-zeros-from-requires : tie.Need-zeros-from-requires
+zeros-from-requires : tie.Need-zeros_from-requires
 zeros-from-requires c κs = search rules
 
-returns : tie.Need-returns
+returns : tie.Need-returns-then-is_path
 returns c =
     let s = c.before.before.before.before.before.before in
-    cursor_right _ _ _ _ s.requires.0.width (sym c.before.if1.true ∙ c.before.before.is-path.ensures) c.zeros-from.ensures
+    cursor_right _ _ _ _ s.requires.0.width (sym c.before.if-is_path.true ∙ c.before.before.is_path.ensures) c.zeros_from.ensures
 
-returns-2 : tie.Need-returns-2
-returns-2 c = cursor_wrong _ _ (sym c.if1.false ∙ c.before.is-path.ensures)
+returns-2 : tie.Need-returns
+returns-2 c = cursor_wrong _ _ (sym c.if-is_path.false ∙ c.before.is_path.ensures)
 
-pub at-member-spec : {M : Type 1} → statement M
-at-member-spec = tie.close (tie.spec is-path-requires zeros-from-requires returns returns-2)
+pub at_member_spec : {M : Type 1} → statement M
+at_member_spec = tie.close (tie.spec is-path-requires zeros-from-requires returns returns-2)

@@ -7,45 +7,45 @@ use Rattle.cursor.proofs.Offsets.{Copied, copied_none, copied_more, copied_all}
 use Rattle.cursor.proofs.clear.Statement.{statement}
 use Rattle.cursor.proofs.clear.Tie as tie
 
-abbrev invariant-loop : tie.invariant-loop
+abbrev invariant-loop : tie.invariant-loop-d
 invariant-loop path₀ d₀ path d = (d ≤ length path₀) × Copied (replicate (length path₀) 0) path d
 
-abbrev decreases-loop : tie.decreases-loop
+abbrev decreases-loop : tie.decreases-loop-d
 decreases-loop path₀ d₀ path d = length path₀ - d
 
 size : (l k : List ℕ) (d : ℕ) → Copied (replicate (length l) 0) k d → length k ≡ length l
 size l k d c = c.size ∙ length-replicate {A = ℕ} (length l) 0
 
-loop-holds : tie.Need-loop-init invariant-loop decreases-loop
+loop-holds : tie.Need-loop-d-init invariant-loop decreases-loop
 loop-holds c = (omega arith, copied_none _ _ (sym (length-replicate {A = ℕ} _ 0)))
 
-mul-path : tie.Need-overflow-mul-path invariant-loop decreases-loop
+mul-path : tie.Need-offset_bounds-path-d invariant-loop decreases-loop
 mul-path c = omega arith
 
-slice-write-path : tie.Need-slice-write-path invariant-loop decreases-loop
+slice-write-path : tie.Need-bounds-path-d invariant-loop decreases-loop
 slice-write-path c = omega arith
 
-add-d : tie.Need-overflow-add-d invariant-loop decreases-loop
+add-d : tie.Need-overflow_add-d invariant-loop decreases-loop
 add-d c = omega arith
 
-loop-less : tie.Need-loop-smaller invariant-loop decreases-loop
-loop-less c = let l = c.before.loop in omega (arith, size c.before.before.args.path.now _ _ l.invariant.1)
+loop-less : tie.Need-loop-d-smaller invariant-loop decreases-loop
+loop-less c = let l = c.before.loop-d in omega (arith, size c.before.before.args.path.now _ _ l.invariant.1)
 
-loop-again : tie.Need-loop-preserved invariant-loop decreases-loop
+loop-again : tie.Need-loop-d-preserved invariant-loop decreases-loop
 loop-again c =
-    let l = c.before.loop in
+    let l = c.before.loop-d in
     let n = length-replicate {A = ℕ} (length c.before.before.args.path.now) 0 in
     let z = size c.before.before.args.path.now _ _ l.invariant.1 in
     (omega (arith, z), copied_more _ _ _ _ l.invariant.1 (omega (arith, z, n)) (sym (get_or-replicate (length c.before.before.args.path.now) l.d 0 0 (omega (arith, z)))))
 
-same_length : tie.Need-same-length invariant-loop decreases-loop
-same_length c = size c.before.before.args.path.now _ _ c.before.loop.invariant.1
+same_length : tie.Need-shape_of-path invariant-loop decreases-loop
+same_length c = size c.before.before.args.path.now _ _ c.before.loop-d.invariant.1
 
 returns : tie.Need-returns invariant-loop decreases-loop
 returns c =
-    let z = size c.before.before.args.path.now _ _ c.before.loop.invariant.1 in
+    let z = size c.before.before.args.path.now _ _ c.before.loop-d.invariant.1 in
     let n = length-replicate {A = ℕ} (length c.before.before.args.path.now) 0 in
-    copied_all _ _ _ c.before.loop.invariant.1 (omega (arith, z, n))
+    copied_all _ _ _ c.before.loop-d.invariant.1 (omega (arith, z, n))
 
 pub clear_spec : {M : Type 1} → statement M
 clear_spec =

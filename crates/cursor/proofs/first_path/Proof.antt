@@ -9,13 +9,13 @@ use Rattle.cursor.proofs.Outset.{FirstTo, first_start, first_room, first_next, f
 use Rattle.cursor.proofs.first_path.Statement.{statement}
 use Rattle.cursor.proofs.first_path.Tie as tie
 
-abbrev invariant-loop : tie.invariant-loop
+abbrev invariant-loop : tie.invariant-loop-d
 invariant-loop l e path₀ m r₀ d₀ path r d = FirstTo (entry_in l) path₀ path r d
 
-abbrev decreases-loop : tie.decreases-loop
+abbrev decreases-loop : tie.decreases-loop-d
 decreases-loop l e path₀ m r₀ d₀ path r d = m - d
 
-abbrev start : tie.At-loop invariant-loop decreases-loop → tie.Start invariant-loop decreases-loop
+abbrev start : tie.At-loop-d invariant-loop decreases-loop → tie.Start invariant-loop decreases-loop
 start l = l.before.before.before
 
 some : (s : tie.Start invariant-loop decreases-loop) → 0 < edge_count (entry_in s.args.l.now)
@@ -24,41 +24,41 @@ some s = omega (arith, s.requires.1, s.requires.0.bits)
 long : (s : tie.Start invariant-loop decreases-loop) → (entry_in s.args.l.now).width ≤ length s.args.path.now
 long s = omega (arith, s.requires.2, s.requires.0.width)
 
-inside : (l : tie.At-loop invariant-loop decreases-loop) → l.loop.d < (start l).args.e.width → l.loop.d < (entry_in (start l).args.l.now).width
+inside : (l : tie.At-loop-d invariant-loop decreases-loop) → l.loop-d.d < (start l).args.e.width → l.loop-d.d < (entry_in (start l).args.l.now).width
 inside l h = omega (arith, h, (start l).requires.0.width)
 
-loop-holds : tie.Need-loop-init invariant-loop decreases-loop
+loop-holds : tie.Need-loop-d-init invariant-loop decreases-loop
 loop-holds c = let s = c.before.before in first_start _ (opens_valid _ _ s.requires.0) (some s) _ (long s)
 
-first-edge-requires : tie.Need-first-edge-requires invariant-loop decreases-loop
-first-edge-requires c κs = let l = c.before in let s = start l in let z = (first_room _ (opens_valid _ _ s.pre.0) (some s) _ (long s) _ _ _ l.loop.invariant (inside l c.loop-test.true)).0 in (s.pre.0, omega (arith, z, s.pre.0.bits))
+first-edge-requires : tie.Need-first_edge-x-requires invariant-loop decreases-loop
+first-edge-requires c κs = let l = c.before in let s = start l in let z = (first_room _ (opens_valid _ _ s.requires.0) (some s) _ (long s) _ _ _ l.loop-d.invariant (inside l c.loop-d-test.true)).0 in (s.requires.0, omega (arith, z, s.requires.0.bits))
 
-mul-path : tie.Need-overflow-mul-path invariant-loop decreases-loop
-mul-path c = let l = c.before.before in omega (arith, c.before.loop-test.true, (opens_room _ _ (start l).requires.0).narrow)
+mul-path : tie.Need-offset_bounds-path-d invariant-loop decreases-loop
+mul-path c = let l = c.before.before in omega (arith, c.before.loop-d-test.true, (opens_room _ _ (start l).requires.0).narrow)
 
-slice-write-path : tie.Need-slice-write-path invariant-loop decreases-loop
-slice-write-path c = let l = c.before.before in omega (arith, c.before.loop-test.true, l.loop.invariant.size, (start l).requires.2)
+slice-write-path : tie.Need-bounds-path-d invariant-loop decreases-loop
+slice-write-path c = let l = c.before.before in omega (arith, c.before.loop-d-test.true, l.loop-d.invariant.size, (start l).requires.2)
 
-level-end-requires : tie.Need-level-end-requires invariant-loop decreases-loop
-level-end-requires c κs = let l = c.before.before in ((start l).requires.0, c.before.loop-test.true)
+level-end-requires : tie.Need-level_end-end-requires invariant-loop decreases-loop
+level-end-requires c κs = let l = c.before.before in ((start l).requires.0, c.before.loop-d-test.true)
 
-add-d : tie.Need-overflow-add-d invariant-loop decreases-loop
-add-d c = let l = c.before.before.before.before in omega (arith, c.before.before.before.loop-test.true, (opens_room _ _ (start l).requires.0).narrow)
+add-d : tie.Need-overflow_add-d invariant-loop decreases-loop
+add-d c = let l = c.before.before.before.before in omega (arith, c.before.before.before.loop-d-test.true, (opens_room _ _ (start l).requires.0).narrow)
 
-loop-less : tie.Need-loop-smaller invariant-loop decreases-loop
-loop-less c = omega (arith, c.before.before.before.loop-test.true)
+loop-less : tie.Need-loop-d-smaller invariant-loop decreases-loop
+loop-less c = omega (arith, c.before.before.before.loop-d-test.true)
 
-loop-again : tie.Need-loop-preserved invariant-loop decreases-loop
-loop-again c = let l = c.before.before.before.before in let s = start l in first_next _ (opens_valid _ _ s.pre.0) (some s) _ (long s) _ _ _ l.loop.invariant (inside l c.before.before.before.loop-test.true) _ _ c.before.before.first_edge.ensures (ap (λ x. x / 2) c.before.level-end.ensures)
+loop-again : tie.Need-loop-d-preserved invariant-loop decreases-loop
+loop-again c = let l = c.before.before.before.before in let s = start l in first_next _ (opens_valid _ _ s.requires.0) (some s) _ (long s) _ _ _ l.loop-d.invariant (inside l c.before.before.before.loop-d-test.true) _ _ c.before.before.first_edge-x.ensures (ap (λ x. x / 2) c.before.level_end-end.ensures)
 
-same_length : tie.Need-same-length invariant-loop decreases-loop
-same_length c = c.before.loop.invariant.size
+same_length : tie.Need-shape_of-path invariant-loop decreases-loop
+same_length c = c.before.loop-d.invariant.size
 
 returns : tie.Need-returns invariant-loop decreases-loop
-returns c = let l = c.before in let s = start l in first_end _ (opens_valid _ _ s.pre.0) (some s) _ (long s) _ _ _ l.loop.invariant (omega (arith, c.loop-test.false, s.pre.0.width))
+returns c = let l = c.before in let s = start l in first_end _ (opens_valid _ _ s.requires.0) (some s) _ (long s) _ _ _ l.loop-d.invariant (omega (arith, c.loop-d-test.false, s.requires.0.width))
 
-pub first-path-spec : {M : Type 1} → statement M
-first-path-spec =
+pub first_path_spec : {M : Type 1} → statement M
+first_path_spec =
     tie.close
     (tie.spec
     invariant-loop

@@ -6,40 +6,40 @@ use borrow.Author.Rules.{rules}
 use Rattle.cursor.proofs.is_cursor.Statement.{statement}
 use Rattle.cursor.proofs.is_cursor.Tie as tie
 
-returns : tie.Need-returns
-returns c = let s = c.before.before.before.before in right_not _ s.args.s s.args.path.now c.if1.true
+returns : tie.Need-returns-then-path-ne-MAX_WIDTH
+returns c = let s = c.before.before.before.before in right_not _ s.args.s s.args.path.now c.if-path-ne-MAX_WIDTH.true
 
-enum_told : tie.Need-enum-told
+enum_told : tie.Need-enum_told-1
 enum_told c = search rules
 
-at-member-requires : tie.Need-at-member-requires
-at-member-requires c κs = let s = c.before.before.before.before.before.before in (s.requires.0, s.requires.1, omega (arith, c.before.before.if1.false, (opens_room _ _ s.requires.0).narrow))
+at-member-requires : tie.Need-at_member-requires
+at-member-requires c κs = let s = c.before.before.before.before.before in (s.requires.0, s.requires.1, omega (arith, c.if-path-ne-MAX_WIDTH.false, (opens_room _ _ s.requires.0).narrow))
 
-enum-told-2 : tie.Need-enum-told-2
+enum-told-2 : tie.Need-enum_told-in-Before
 enum-told-2 c = search rules
 
-zeros-from-requires : tie.Need-zeros-from-requires
+zeros-from-requires : tie.Need-zeros_from-requires
 zeros-from-requires c κs = search rules
 
-enum-told-3 : tie.Need-enum-told-3
+enum-told-3 : tie.Need-enum_told-in-After
 enum-told-3 c = search rules
 
-zeros-from-requires-2 : tie.Need-zeros-from-requires-2
+zeros-from-requires-2 : tie.Need-zeros_from-requires-in-After
 zeros-from-requires-2 c κs = search rules
 
-returns-2 : tie.Need-returns-2
-returns-2 c = right_in _ _ _ _ _ c.before.before.before.if1.false c.before.enum_told.given.1 c.at-member.ensures
+returns-2 : tie.Need-returns-in-At
+returns-2 c = right_in _ _ _ _ _ c.if-path-ne-MAX_WIDTH.false c.in-At.is c.at_member.ensures
 
-returns-3 : tie.Need-returns-3
+returns-3 : tie.Need-returns-in-Before
 unfolding offsets_right
-returns-3 c = right_in _ _ _ _ _ c.before.before.before.if1.false c.before.enum-told2.given.1 c.zeros-from.ensures
+returns-3 c = right_in _ _ _ _ _ c.if-path-ne-MAX_WIDTH.false c.in-Before.is c.zeros_from.ensures
 
-returns-4 : tie.Need-returns-4
+returns-4 : tie.Need-returns-in-After
 unfolding offsets_right
-returns-4 c = right_in _ _ _ _ _ c.before.before.before.if1.false c.before.enum-told3.given.1 c.zeros-from2.ensures
+returns-4 c = right_in _ _ _ _ _ c.if-path-ne-MAX_WIDTH.false c.in-After.is c.zeros_from-in-After.ensures
 
-pub is-cursor-spec : {M : Type 1} → statement M
-is-cursor-spec =
+pub is_cursor_spec : {M : Type 1} → statement M
+is_cursor_spec =
     tie.close
     (tie.spec
     returns

@@ -7,50 +7,50 @@ use Rattle.cursor.proofs.Checks.{MovedTo, move_start, move_small, move_room, mov
 use Rattle.cursor.proofs.move_on.Statement.{statement}
 use Rattle.cursor.proofs.move_on.Tie as tie
 
-abbrev invariant-loop : tie.invariant-loop
+abbrev invariant-loop : tie.invariant-loop-d
 invariant-loop l e t path₀ m d₀ path d = MovedTo (edges_of (entry_in l)) m t path₀ path d
 
-abbrev decreases-loop : tie.decreases-loop
+abbrev decreases-loop : tie.decreases-loop-d
 decreases-loop l e t path₀ m d₀ path d = m - d
 
-abbrev start : tie.At-loop invariant-loop decreases-loop → tie.Start invariant-loop decreases-loop
+abbrev start : tie.At-loop-d invariant-loop decreases-loop → tie.Start invariant-loop decreases-loop
 start l = l.before.before.before
 
-loop-holds : tie.Need-loop-init invariant-loop decreases-loop
+loop-holds : tie.Need-loop-d-init invariant-loop decreases-loop
 loop-holds c = let s = c.before.before in move_start _ s.args.e.bits _ _ _ s.requires.1
 
-mul-q : tie.Need-overflow-mul-q invariant-loop decreases-loop
-mul-q c = let l = c.before in omega (arith, l.loop.invariant.most, (opens_room _ _ (start l).requires.0).narrow)
+mul-q : tie.Need-offset_bounds-path-d invariant-loop decreases-loop
+mul-q c = let l = c.before in omega (arith, l.loop-d.invariant.most, (opens_room _ _ (start l).requires.0).narrow)
 
-slice-read-q : tie.Need-slice-read-q invariant-loop decreases-loop
-slice-read-q c = let l = c.before.before in omega (arith, l.loop.invariant.size, (start l).requires.1.room, c.before.loop-test.true)
+slice-read-q : tie.Need-bounds-path-d invariant-loop decreases-loop
+slice-read-q c = let l = c.before.before in omega (arith, l.loop-d.invariant.size, (start l).requires.1.room, c.before.loop-d-test.true)
 
-next-offset-requires : tie.Need-next-offset-requires invariant-loop decreases-loop
-next-offset-requires c κs = let l = c.before.before in let s = start l in let t = c.before.loop-test.true in (s.pre.0, move_small _ _ _ _ _ s.pre.1 _ _ l.loop.invariant t, move_room _ _ _ _ _ s.pre.1 _ _ l.loop.invariant t)
+next-offset-requires : tie.Need-next_offset-x-requires invariant-loop decreases-loop
+next-offset-requires c κs = let l = c.before.before in let s = start l in let t = c.before.loop-d-test.true in (s.requires.0, move_small _ _ _ _ _ s.requires.1 _ _ l.loop-d.invariant t, move_room _ _ _ _ _ s.requires.1 _ _ l.loop-d.invariant t)
 
-mul-path : tie.Need-overflow-mul-path invariant-loop decreases-loop
-mul-path c = let l = c.before.before.before in omega (arith, l.loop.invariant.most, (opens_room _ _ (start l).requires.0).narrow)
+mul-path : tie.Need-offset_bounds-path-d-in-loop-d invariant-loop decreases-loop
+mul-path c = let l = c.before.before.before in omega (arith, l.loop-d.invariant.most, (opens_room _ _ (start l).requires.0).narrow)
 
-slice-write-path : tie.Need-slice-write-path invariant-loop decreases-loop
-slice-write-path c = let l = c.before.before.before in omega (arith, l.loop.invariant.size, (start l).requires.1.room, c.before.before.loop-test.true)
+slice-write-path : tie.Need-bounds-path-d-in-loop-d invariant-loop decreases-loop
+slice-write-path c = let l = c.before.before.before in omega (arith, l.loop-d.invariant.size, (start l).requires.1.room, c.before.before.loop-d-test.true)
 
-add-d : tie.Need-overflow-add-d invariant-loop decreases-loop
-add-d c = let l = c.before.before.before in omega (arith, l.loop.invariant.most, (opens_room _ _ (start l).requires.0).narrow)
+add-d : tie.Need-overflow_add-d invariant-loop decreases-loop
+add-d c = let l = c.before.before.before in omega (arith, l.loop-d.invariant.most, (opens_room _ _ (start l).requires.0).narrow)
 
-loop-less : tie.Need-loop-smaller invariant-loop decreases-loop
-loop-less c = omega (arith, c.before.before.loop-test.true)
+loop-less : tie.Need-loop-d-smaller invariant-loop decreases-loop
+loop-less c = omega (arith, c.before.before.loop-d-test.true)
 
-loop-again : tie.Need-loop-preserved invariant-loop decreases-loop
-loop-again c = let l = c.before.before.before in let s = start l in move_next _ s.args.e.bits _ _ _ s.pre.1 _ _ l.loop.invariant c.before.before.loop-test.true _ c.next-offset.ensures
+loop-again : tie.Need-loop-d-preserved invariant-loop decreases-loop
+loop-again c = let l = c.before.before.before in let s = start l in move_next _ s.args.e.bits _ _ _ s.requires.1 _ _ l.loop-d.invariant c.before.before.loop-d-test.true _ c.next_offset-x.ensures
 
-same_length : tie.Need-same-length invariant-loop decreases-loop
-same_length c = c.before.loop.invariant.size
+same_length : tie.Need-shape_of-path invariant-loop decreases-loop
+same_length c = c.before.loop-d.invariant.size
 
 returns : tie.Need-returns invariant-loop decreases-loop
-returns c = let l = c.before in let s = start l in move_end _ s.args.e.bits _ _ _ s.pre.1 _ _ l.loop.invariant c.loop-test.false
+returns c = let l = c.before in let s = start l in move_end _ s.args.e.bits _ _ _ s.requires.1 _ _ l.loop-d.invariant c.loop-d-test.false
 
-pub move-on-spec : {M : Type 1} → statement M
-move-on-spec =
+pub move_on_spec : {M : Type 1} → statement M
+move_on_spec =
     tie.close
     (tie.spec
     invariant-loop

@@ -7,48 +7,48 @@ use Rattle.cursor.proofs.Offsets.{cursor_long, numbers_long, numbers_at, Copied,
 use Rattle.cursor.proofs.numbers_of.Statement.{statement}
 use Rattle.cursor.proofs.numbers_of.Tie as tie
 
-abbrev invariant-loop : tie.invariant-loop
+abbrev invariant-loop : tie.invariant-loop-d
 invariant-loop offsets path₀ d₀ path d = (d ≤ 256) × Copied (numbers offsets) path d
 
-abbrev decreases-loop : tie.decreases-loop
+abbrev decreases-loop : tie.decreases-loop-d
 decreases-loop offsets path₀ d₀ path d = 256 - d
 
 size : (s : tie.Start invariant-loop decreases-loop) → length s.args.c.offsets ≡ 256
 size s = cursor_long s.args.c _ s.well-formed.0
 
-loop-holds : tie.Need-loop-init invariant-loop decreases-loop
+loop-holds : tie.Need-loop-d-init invariant-loop decreases-loop
 loop-holds c = (omega arith, copied_none _ _ (sym (numbers_long _ ∙ size c.before)))
 
-mul-o : tie.Need-overflow-mul-o invariant-loop decreases-loop
+mul-o : tie.Need-offset_bounds-offsets-d invariant-loop decreases-loop
 mul-o c = omega arith
 
-array-copy-out-o : tie.Need-array-copy-out-o invariant-loop decreases-loop
+array-copy-out-o : tie.Need-bounds-offsets-d invariant-loop decreases-loop
 array-copy-out-o c = omega arith
 
-mul-path : tie.Need-overflow-mul-path invariant-loop decreases-loop
+mul-path : tie.Need-offset_bounds-path-d invariant-loop decreases-loop
 mul-path c = omega arith
 
-array-write-path : tie.Need-array-write-path invariant-loop decreases-loop
+array-write-path : tie.Need-bounds-path-d invariant-loop decreases-loop
 array-write-path c = omega arith
 
-add-d : tie.Need-overflow-add-d invariant-loop decreases-loop
+add-d : tie.Need-overflow_add-d invariant-loop decreases-loop
 add-d c = omega arith
 
-loop-less : tie.Need-loop-smaller invariant-loop decreases-loop
+loop-less : tie.Need-loop-d-smaller invariant-loop decreases-loop
 loop-less c = omega arith
 
-loop-again : tie.Need-loop-preserved invariant-loop decreases-loop
+loop-again : tie.Need-loop-d-preserved invariant-loop decreases-loop
 loop-again c =
-    let l = c.before.before.loop in
+    let l = c.before.before.loop-d in
     let s = c.before.before.before.before in
     let n = numbers_long s.args.c.offsets in
     (omega arith, copied_more _ _ _ _ l.invariant.1 (omega (arith, size s, n)) (sym (numbers_at s.args.c.offsets l.d _ (omega (arith, size s)))))
 
 returns : tie.Need-returns invariant-loop decreases-loop
-returns c = let s = c.before.before.before in let n = numbers_long s.args.c.offsets in copied_all _ _ _ c.before.loop.invariant.1 (omega (arith, size s, n))
+returns c = let s = c.before.before.before in let n = numbers_long s.args.c.offsets in copied_all _ _ _ c.before.loop-d.invariant.1 (omega (arith, size s, n))
 
-pub numbers-of-spec : {M : Type 1} → statement M
-numbers-of-spec =
+pub numbers_of_spec : {M : Type 1} → statement M
+numbers_of_spec =
     tie.close
     (tie.spec
     invariant-loop

@@ -14,24 +14,24 @@ inside : (s : tie.Start) → (s.args.e.edges + s.args.r.0 / 4 < length s.args.l.
 unfolding started
 inside s = let r = opens_room s.args.l.now s.args.e s.requires.0 in (omega (arith, r.edges, s.requires.1), r.bytes)
 
-add_at : tie.Need-overflow-add-at
+add_at : tie.Need-overflow_add-at
 add_at c = omega (arith, inside c.before.before.before)
 
-shared-slice-read-record-in : tie.Need-shared-slice-read-record-in
+shared-slice-read-record-in : tie.Need-bounds-l-at
 shared-slice-read-record-in c = (inside c.before.before.before.before).0
 
-record-in-requires : tie.Need-record-in-requires
+record-in-requires : tie.Need-record_in-z-requires
 record-in-requires c κs = search rules
 
-cast-result : tie.Need-overflow-cast-result
+cast-result : tie.Need-overflow_cast-result
 cast-result c = search rules
 
 returns : tie.Need-returns
 unfolding code_in
 returns c =
     let s = c.before.before.before.before.before.before in
-    c.record_in.ensures.0 ∙ code_at s.args.l.now s.args.e s.args.r.0 s.requires.0 s.requires.1
+    c.record_in-z.ensures.0 ∙ code_at s.args.l.now s.args.e s.args.r.0 s.requires.0 s.requires.1
 
-pub record-at-spec : {M : Type 1} → statement M
-record-at-spec =
+pub record_at_spec : {M : Type 1} → statement M
+record_at_spec =
     tie.close (tie.spec add_at shared-slice-read-record-in record-in-requires cast-result returns)

@@ -12,63 +12,63 @@ use Rattle.cursor.proofs.step_at.Tie as tie
 valid : (s : tie.Start) → Valid (entry_in s.args.l.now)
 valid s = opens_valid _ _ s.requires.0
 
-turn-level-requires : tie.Need-turn-level-requires
+turn-level-requires : tie.Need-turn_level-level-requires
 turn-level-requires c κs = let s = c.before.before.before.before in let z = at_set _ (valid s) _ s.requires.1 _ _ s.requires.0.width s.requires.0.bits in (s.requires.0, z.0, z.1)
 
 clear-requires : tie.Need-clear-requires
 clear-requires c κs = search rules
 
-same_length : tie.Need-same-length
+same_length : tie.Need-shape_of-path-then-level-eq0
 same_length c = search rules
 
-returns : tie.Need-returns
+returns : tie.Need-returns-then-level-eq0
 returns c =
     let s = c.before.before.before.before.before.before.before.before.before.before in
-    at_last _ (valid s) _ s.requires.1 _ _ s.requires.0.width s.requires.0.bits _ c.before.before.before.before.before.turn_level.ensures _ _ c.before.before.before.before.if1.true c.before.before.clear.ensures
+    at_last _ (valid s) _ s.requires.1 _ _ s.requires.0.width s.requires.0.bits _ c.before.before.before.before.before.turn_level-level.ensures _ _ c.before.before.before.before.if-level-eq0.true c.before.before.clear.ensures
 
-bytes-for-requires : tie.Need-bytes-for-requires
+bytes-for-requires : tie.Need-bytes_for-requires
 bytes-for-requires c κs = let s = c.before.before.before.before.before.before in omega (arith, (opens_room _ _ s.requires.0).narrow)
 
-same-length-2 : tie.Need-same-length-2
+same-length-2 : tie.Need-shape_of-path-then-out-bytes_for
 same-length-2 c = search rules
 
-returns-2 : tie.Need-returns-2
+returns-2 : tie.Need-returns-then-out-bytes_for
 unfolding key_bytes started
 returns-2 c =
     let s = c.before.before.before.before.before.before.before.before in
-    at_short _ (valid s) _ s.requires.1 _ _ s.requires.0.width s.requires.0.bits _ c.before.before.before.turn_level.ensures (positive _ c.before.before.if1.false) _ (omega (arith, c.before.bytes-for.ensures.0, c.if2.true))
+    at_short _ (valid s) _ s.requires.1 _ _ s.requires.0.width s.requires.0.bits _ c.before.before.before.turn_level-level.ensures (positive _ c.before.before.if-level-eq0.false) _ (omega (arith, c.before.bytes_for.ensures.0, c.if-out-bytes_for.true))
 
-sub-move-on : tie.Need-overflow-sub-move-on
+sub-move-on : tie.Need-overflow_sub-level
 sub-move-on c = search rules
 
-move-on-requires : tie.Need-move-on-requires
+move-on-requires : tie.Need-move_on-requires
 move-on-requires c κs =
     let s = c.before.before.before.before.before.before.before.before.before in
-    (s.requires.0, at_movable _ (valid s) _ s.requires.1 _ _ s.requires.0.width s.requires.0.bits _ c.before.before.before.before.turn_level.ensures (positive _ c.before.before.before.if1.false))
+    (s.requires.0, at_movable _ (valid s) _ s.requires.1 _ _ s.requires.0.width s.requires.0.bits _ c.before.before.before.before.turn_level-level.ensures (positive _ c.before.before.before.if-level-eq0.false))
 
-write-key-requires : tie.Need-write-key-requires
+write-key-requires : tie.Need-write_key-n-requires
 unfolding key_bytes started
 write-key-requires c κs =
-    let s = c.before.before.before.before.before.before.before.before.before.before.before.before.before.before in
+    let s = c.before.before.before.before.before.before.before.before.before.before.before.before.before in
     let n = (opens_room _ _ s.requires.0).narrow in
     (n, omega (arith, n, c.before.before.before.before.move-on.ensures.size, (right_parts _ _ s.requires.1).0), omega (arith, c.before.before.before.before.before.before.before.bytes-for.ensures.0, c.before.before.before.before.before.before.if2.false))
 
-same-length-3 : tie.Need-same-length-3
+same-length-3 : tie.Need-shape_of-path
 same-length-3 c = search rules
 
-same-length-4 : tie.Need-same-length-4
+same-length-4 : tie.Need-shape_of-out
 same-length-4 c = search rules
 
-returns-3 : tie.Need-returns-3
+returns-3 : tie.Need-returns
 unfolding key_bytes started
 returns-3 c =
-    let s = c.before.before.before.before.before.before.before.before.before.before.before.before.before.before.before.before.before in
+    let s = c.before.before.before.before.before.before.before.before.before.before.before.before.before.before.before.before in
     let b = c.before.before.before.before.before.before.before.before.before.before.bytes-for.ensures.0 in
-    let w = c.before.before.write-key.ensures in
+    let w = c.before.before.write_key-n.ensures in
     at_next _ (valid s) _ s.requires.1 _ _ s.requires.0.width s.requires.0.bits _ c.before.before.before.before.before.before.before.before.before.before.before.before.turn_level.ensures (positive _ c.before.before.before.before.before.before.before.before.before.before.before.if1.false) _ _ _ _ c.before.before.before.before.before.before.before.move-on.ensures (omega (arith, b, c.before.before.before.before.before.before.before.before.before.if2.false)) w.0 w.1
 
-pub step-at-spec : {M : Type 1} → statement M
-step-at-spec =
+pub step_at_spec : {M : Type 1} → statement M
+step_at_spec =
     tie.close
     (tie.spec
     turn-level-requires

@@ -16,25 +16,25 @@ use Rattle.cursor.proofs.step_before.Tie as tie
 some : (s : tie.Start) → (s.args.e.bits ≡ 0 → ⊥) → 0 < edge_count (entry_in s.args.l.now)
 some s h = let z = positive _ h in omega (arith, z, s.requires.0.bits)
 
-returns : tie.Need-returns
-returns c = let s = c.before.before.before.before.before in before_none _ (opens_valid _ _ s.requires.0) _ s.requires.1 _ (sym s.requires.0.bits ∙ c.if1.true)
+returns : tie.Need-returns-then-e-eq0
+returns c = let s = c.before.before.before.before.before in before_none _ (opens_valid _ _ s.requires.0) _ s.requires.1 _ (sym s.requires.0.bits ∙ c.if-e-eq0.true)
 
-bytes-for-requires : tie.Need-bytes-for-requires
+bytes-for-requires : tie.Need-bytes_for-requires
 bytes-for-requires c κs = let s = c.before.before.before.before.before in omega (arith, (opens_room _ _ s.requires.0).narrow)
 
-returns-2 : tie.Need-returns-2
+returns-2 : tie.Need-returns-then-out-bytes_for
 unfolding key_bytes started
 returns-2 c =
     let s = c.before.before.before.before.before.before.before in
-    before_short _ (opens_valid _ _ s.requires.0) _ s.requires.1 (some s c.before.before.if1.false) _ _ s.requires.0.width (omega (arith, c.before.bytes-for.ensures.0, c.if2.true))
+    before_short _ (opens_valid _ _ s.requires.0) _ s.requires.1 (some s c.before.before.if-e-eq0.false) _ _ s.requires.0.width (omega (arith, c.before.bytes_for.ensures.0, c.if-out-bytes_for.true))
 
-first-path-requires : tie.Need-first-path-requires
+first-path-requires : tie.Need-first_path-requires
 first-path-requires c κs =
     let s = c.before.before.before.before.before.before.before.before in
     let z = ap length s.requires.1 ∙ length-replicate {A = ℕ} 256 0 in
-    (s.requires.0, positive _ c.before.before.before.if1.false, omega (arith, z, (opens_room _ _ s.requires.0).narrow))
+    (s.requires.0, positive _ c.before.before.before.if-e-eq0.false, omega (arith, z, (opens_room _ _ s.requires.0).narrow))
 
-write-key-requires : tie.Need-write-key-requires
+write-key-requires : tie.Need-write_key-n-requires
 unfolding key_bytes started
 write-key-requires c κs =
     let s = c.before.before.before.before.before.before.before.before.before.before.before.before.before in
@@ -42,22 +42,22 @@ write-key-requires c κs =
     let z = path_long _ v 0 (first_some _ v (some s c.before.before.before.before.before.before.before.before.if1.false)) s.args.path.now in
     ((opens_room _ _ s.requires.0).narrow, rw c.before.before.before.before.first_path.ensures (omega (arith, z, s.requires.0.width)), omega (arith, c.before.before.before.before.before.before.before.bytes-for.ensures.0, c.before.before.before.before.before.before.if2.false))
 
-same_length : tie.Need-same-length
+same_length : tie.Need-shape_of-path
 same_length c = search rules
 
-same-length-2 : tie.Need-same-length-2
+same-length-2 : tie.Need-shape_of-out
 same-length-2 c = search rules
 
-returns-3 : tie.Need-returns-3
+returns-3 : tie.Need-returns
 unfolding key_bytes started
 returns-3 c =
     let s = c.before.before.before.before.before.before.before.before.before.before.before.before.before.before.before.before in
     let b = c.before.before.before.before.before.before.before.before.before.before.bytes-for.ensures.0 in
-    let w = c.before.before.write-key.ensures in
+    let w = c.before.before.write_key-n.ensures in
     before_first _ (opens_valid _ _ s.requires.0) _ s.requires.1 (some s c.before.before.before.before.before.before.before.before.before.before.before.if1.false) _ _ _ _ _ c.before.before.before.before.before.before.before.first_path.ensures s.requires.0.width (omega (arith, b, c.before.before.before.before.before.before.before.before.before.if2.false)) w.0 w.1
 
-pub step-before-spec : {M : Type 1} → statement M
-step-before-spec =
+pub step_before_spec : {M : Type 1} → statement M
+step_before_spec =
     tie.close
     (tie.spec
     returns

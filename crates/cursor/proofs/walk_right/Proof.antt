@@ -5,47 +5,47 @@ use Rattle.cursor.proofs.walk_right.Statement.{statement}
 use Rattle.cursor.proofs.walk_right.Tie as tie
 
 -- a step is made, and its bytes are known
-module _ (b : tie.After-bytes-of) where
+module _ (b : tie.After-bytes_of-n) where
   abbrev start : tie.Start
   start = b.before.before.before.before.before.before.before.before.before.before.before
 
-  abbrev step : tie.After-step-right
+  abbrev step : tie.After-step_right-w
   step = b.before.before.before.before.before
 
-step-right-requires : tie.Need-step-right-requires
+step-right-requires : tie.Need-step_right-w-requires
 step-right-requires c κs = search rules
 
-bytes-of-requires : tie.Need-bytes-of-requires
+bytes-of-requires : tie.Need-bytes_of-n-requires
 bytes-of-requires c κs = search rules
 
-same_length : tie.Need-same-length
+same_length : tie.Need-shape_of-path-then-n-eq0
 same_length c = search rules
 
-same-length-2 : tie.Need-same-length-2
+same-length-2 : tie.Need-shape_of-out-then-n-eq0
 same-length-2 c = search rules
 
-returns : tie.Need-returns
-returns c = let b = c.before in walk_none _ _ (start b).requires.1 _ (step b).step_right.result _ _ (step b).step_right.ensures _ b.bytes_of.ensures c.if1.true
+returns : tie.Need-returns-then-n-eq0
+returns c = let b = c.before in walk_none _ _ (start b).requires.1 _ (step b).step_right-w.result _ _ (step b).step_right-w.ensures _ b.bytes_of-n.ensures c.if-n-eq0.true
 
-steps-on-requires : tie.Need-steps-on-requires
+steps-on-requires : tie.Need-steps_on-requires
 steps-on-requires c κs =
     let b = c.before.before.before in
-    let z = walk_begun _ _ (start b).requires.1 _ (step b).step_right.result _ _ (step b).step_right.ensures _ b.bytes_of.ensures c.before.before.if1.false (opens_valid _ _ (start b).requires.0) in
+    let z = walk_begun _ _ (start b).requires.1 _ (step b).step_right-w.result _ _ (step b).step_right-w.ensures _ b.bytes_of-n.ensures c.before.before.if-n-eq0.false (opens_valid _ _ (start b).requires.0) in
     ((start b).requires.0, z.0, z.1)
 
-same-length-3 : tie.Need-same-length-3
+same-length-3 : tie.Need-shape_of-path
 same-length-3 c = search rules
 
-same-length-4 : tie.Need-same-length-4
+same-length-4 : tie.Need-shape_of-out
 same-length-4 c = search rules
 
-returns-2 : tie.Need-returns-2
+returns-2 : tie.Need-returns
 returns-2 c =
     let b = c.before.before.before.before.before.before.before.before in
-    walk_whole _ _ (start b).requires.1 _ (step b).step_right.result _ _ (step b).step_right.ensures _ b.bytes_of.ensures c.before.before.before.before.before.before.before.if1.false _ c.before.before.before.before.steps_on.ensures
+    walk_whole _ _ (start b).requires.1 _ (step b).step_right-w.result _ _ (step b).step_right-w.ensures _ b.bytes_of-n.ensures c.before.before.before.before.before.before.before.if-n-eq0.false _ c.before.before.before.before.steps_on.ensures
 
-pub walk-right-spec : {M : Type 1} → statement M
-walk-right-spec =
+pub walk_right_spec : {M : Type 1} → statement M
+walk_right_spec =
     tie.close
     (tie.spec
     step-right-requires

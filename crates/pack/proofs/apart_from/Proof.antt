@@ -7,68 +7,68 @@ use Rattle.pack.specs.Marking.{Gap}
 use Rattle.pack.proofs.apart_from.Statement.{statement}
 use Rattle.pack.proofs.apart_from.Tie as tie
 
-abbrev invariant-loop : tie.invariant-loop
+abbrev invariant-loop : tie.invariant-loop-e
 invariant-loop starts n m e₀ e = 0 < e
 
-abbrev decreases-loop : tie.decreases-loop
+abbrev decreases-loop : tie.decreases-loop-e
 decreases-loop starts n m e₀ e = m - e
 
-abbrev start : tie.In-loop invariant-loop decreases-loop → tie.Start invariant-loop decreases-loop
+abbrev start : tie.In-loop-e invariant-loop decreases-loop → tie.Start invariant-loop decreases-loop
 start w = w.before.before
 
 -- no level is found
 none_found : (m n : ℕ) (starts : List ℕ) → Gap m n starts m
 none_found m n starts = record { most = omega arith; size = λ h. absurd (omega arith) }
 
-loop-holds : tie.Need-loop-init invariant-loop decreases-loop
+loop-holds : tie.Need-loop-e-init invariant-loop decreases-loop
 loop-holds c = omega arith
 
-sub-if1 : tie.Need-overflow-sub-if1 invariant-loop decreases-loop
-sub-if1 c = c.before.loop.invariant
+sub-if1 : tie.Need-overflow_sub-e invariant-loop decreases-loop
+sub-if1 c = c.before.loop-e.invariant
 
-mul-if1 : tie.Need-overflow-mul-if1 invariant-loop decreases-loop
-mul-if1 c = omega (arith, (start c).well-formed, (start c).requires.0, c.loop-test.true)
+mul-if1 : tie.Need-offset_bounds-starts-e invariant-loop decreases-loop
+mul-if1 c = omega (arith, (start c).well-formed, (start c).requires.0, c.loop-e-test.true)
 
-shared-slice-read-if1 : tie.Need-shared-slice-read-if1 invariant-loop decreases-loop
-shared-slice-read-if1 c = let w = c.before in omega (arith, (start w).requires.0, w.loop-test.true)
+shared-slice-read-if1 : tie.Need-bounds-starts-e invariant-loop decreases-loop
+shared-slice-read-if1 c = let w = c.before in omega (arith, (start w).requires.0, w.loop-e-test.true)
 
-add-if1 : tie.Need-overflow-add-if1 invariant-loop decreases-loop
-add-if1 c = let w = c.before in record { fits = omega (arith, (start w).requires.1 (w.before.loop.e - 1) (omega (arith, w.loop-test.true)), (start w).requires.2) }
+add-if1 : tie.Need-overflow_add-starts invariant-loop decreases-loop
+add-if1 c = let w = c.before in record { fits = omega (arith, (start w).requires.1 (w.before.loop-e.e - 1) (omega (arith, w.loop-e-test.true)), (start w).requires.2) }
 
-mul-if1-2 : tie.Need-overflow-mul-if1-2 invariant-loop decreases-loop
-mul-if1-2 c = let w = c.before in omega (arith, (start w).well-formed, (start w).requires.0, w.loop-test.true)
+mul-if1-2 : tie.Need-offset_bounds-starts-e-in-loop-e invariant-loop decreases-loop
+mul-if1-2 c = let w = c.before in omega (arith, (start w).well-formed, (start w).requires.0, w.loop-e-test.true)
 
-shared-slice-read-if1-2 : tie.Need-shared-slice-read-if1-2 invariant-loop decreases-loop
-shared-slice-read-if1-2 c = let w = c.before.before in omega (arith, (start w).requires.0, w.loop-test.true)
+shared-slice-read-if1-2 : tie.Need-bounds-starts-e-in-loop-e invariant-loop decreases-loop
+shared-slice-read-if1-2 c = let w = c.before.before in omega (arith, (start w).requires.0, w.loop-e-test.true)
 
-sub-result : tie.Need-overflow-sub-result invariant-loop decreases-loop
-sub-result c = c.before.before.before.before.loop.invariant
+sub-result : tie.Need-overflow_sub-result invariant-loop decreases-loop
+sub-result c = c.before.before.before.before.loop-e.invariant
 
-returns : tie.Need-returns invariant-loop decreases-loop
+returns : tie.Need-returns-then-starts-e invariant-loop decreases-loop
 returns c =
     let w = c.before.before.before in
     let a = (start w).args in
-    let e : ℕ = w.before.loop.e in
-    let z : suc (e - 1) ≡ e = omega (arith, w.before.loop.invariant) in
+    let e : ℕ = w.before.loop-e.e in
+    let z : suc (e - 1) ≡ e = omega (arith, w.before.loop-e.invariant) in
     record {
-      most = omega (arith, w.loop-test.true);
-      size = λ h. (omega (arith, w.loop-test.true, z), ap (λ k. get_or a.starts.now k 0) z ∙ sym c.if1.true);
+      most = omega (arith, w.loop-e-test.true);
+      size = λ h. (omega (arith, w.loop-e-test.true, z), ap (λ k. get_or a.starts.now k 0) z ∙ sym c.if-starts-e.true);
     }
 
-add-e : tie.Need-overflow-add-e invariant-loop decreases-loop
-add-e c = let w = c.before.before.before in record { fits = omega (arith, w.loop-test.true, (start w).ranges) }
+add-e : tie.Need-overflow_add-e invariant-loop decreases-loop
+add-e c = let w = c.before.before.before in record { fits = omega (arith, w.loop-e-test.true, (start w).ranges) }
 
-loop-less : tie.Need-loop-smaller invariant-loop decreases-loop
-loop-less c = let w = c.before.before.before in omega (arith, w.loop-test.true)
+loop-less : tie.Need-loop-e-smaller invariant-loop decreases-loop
+loop-less c = let w = c.before.before.before in omega (arith, w.loop-e-test.true)
 
-loop-again : tie.Need-loop-preserved invariant-loop decreases-loop
+loop-again : tie.Need-loop-e-preserved invariant-loop decreases-loop
 loop-again c = omega arith
 
-returns-2 : tie.Need-returns-2 invariant-loop decreases-loop
+returns-2 : tie.Need-returns invariant-loop decreases-loop
 returns-2 c = let a = c.before.before.args in none_found a.m a.n a.starts.now
 
-pub apart-from-spec : {M : Type 1} → statement M
-apart-from-spec =
+pub apart_from_spec : {M : Type 1} → statement M
+apart_from_spec =
     tie.close
     (tie.spec
     invariant-loop

@@ -12,53 +12,53 @@ module _ (s : tie.Start) where
   room : s.args.t * s.args.i + s.args.t ≤ length s.args.batch.now
   room = far s.args.m s.args.t s.args.i s.args.batch.now s.requires
 
-mul_at : tie.Need-overflow-mul-at
+mul_at : tie.Need-overflow_mul-at
 mul_at c = record { fits = omega (arith, room c.before, c.before.well-formed) }
 
-sub-unused-set : tie.Need-overflow-sub-unused-set
+sub-unused-set : tie.Need-slice_bounds-unused_set-count
 sub-unused-set c = omega (arith, room c.before)
 
-part-unused-set-start : tie.Need-slice-bounds-unused-set-start
+part-unused-set-start : tie.Need-slice_bounds-unused_set-start
 part-unused-set-start c = omega (arith, room c.before)
 
-part-unused-set-end : tie.Need-slice-bounds-unused-set-end
+part-unused-set-end : tie.Need-slice_bounds-unused_set-end
 part-unused-set-end c = search rules
 
-unused-set-requires : tie.Need-unused-set-requires
+unused-set-requires : tie.Need-unused_set-requires
 unused-set-requires c κs =
     let s = c.before.before in
     ((s.requires.positive, s.requires.narrow), (s.requires.size, omega (arith, room s, length_lent s.args.batch.now (s.args.t * s.args.i))))
 
-returns : tie.Need-returns
+returns : tie.Need-returns-then-unused_set
 returns c =
     let u = c.before in
     let s = u.before.before.before in
-    unused_refused s.args.m s.args.t s.args.i s.args.batch.now s.requires (sym c.if1.true ∙ u.unused-set.ensures)
+    unused_refused s.args.m s.args.t s.args.i s.args.batch.now s.requires (sym c.if-unused_set.true ∙ u.unused_set.ensures)
 
-first-new-requires : tie.Need-first-new-requires
+first-new-requires : tie.Need-first_new-new-requires
 first-new-requires c κs = search rules
 
 descends-requires : tie.Need-descends-requires
 descends-requires c κs = search rules
 
-returns-2 : tie.Need-returns-2
+returns-2 : tie.Need-returns-then-descends
 returns-2 c =
     let d = c.before in
     let e = d.before.before in
     let u = e.before in
     let s = u.before.before.before in
-    descending_refused s.args.m s.args.t s.args.i s.args.batch.now s.requires (sym e.if1.false ∙ u.unused-set.ensures) (sym c.if2.true ∙ d.descends.ensures)
+    descending_refused s.args.m s.args.t s.args.i s.args.batch.now s.requires (sym e.if-unused_set.false ∙ u.unused_set.ensures) (sym c.if-descends.true ∙ d.descends.ensures)
 
-returns-3 : tie.Need-returns-3
+returns-3 : tie.Need-returns
 returns-3 c =
     let d = c.before in
     let e = d.before.before in
     let u = e.before in
     let s = u.before.before.before in
-    (key_passes s.args.m s.args.t s.args.i s.args.batch.now s.requires (sym e.if1.false ∙ u.unused-set.ensures) (sym c.if2.false ∙ d.descends.ensures), d.before.first-new.ensures)
+    (key_passes s.args.m s.args.t s.args.i s.args.batch.now s.requires (sym e.if-unused_set.false ∙ u.unused_set.ensures) (sym c.if-descends.false ∙ d.descends.ensures), d.before.first_new-new.ensures)
 
-pub check-key-spec : {M : Type 1} → statement M
-check-key-spec =
+pub check_key_spec : {M : Type 1} → statement M
+check_key_spec =
     tie.close
     (tie.spec
     mul_at

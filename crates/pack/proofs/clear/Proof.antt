@@ -8,40 +8,40 @@ use borrow.Author.Fill.{fill_more}
 use Rattle.pack.proofs.clear.Statement.{statement}
 use Rattle.pack.proofs.clear.Tie as tie
 
-abbrev invariant-loop : tie.invariant-loop
+abbrev invariant-loop : tie.invariant-loop-i
 invariant-loop b₀ i₀ b i = (i ≤ length b₀) × (length b ≡ length b₀) × (b ≡ replicate i 0 ++ drop i b₀)
 
-abbrev decreases-loop : tie.decreases-loop
+abbrev decreases-loop : tie.decreases-loop-i
 decreases-loop b₀ i₀ b i = length b₀ - i
 
-loop-holds : tie.Need-loop-init invariant-loop decreases-loop
+loop-holds : tie.Need-loop-i-init invariant-loop decreases-loop
 loop-holds c = (omega arith, refl, refl)
 
-slice-write-b : tie.Need-slice-write-b invariant-loop decreases-loop
+slice-write-b : tie.Need-bounds-b-i invariant-loop decreases-loop
 slice-write-b c = omega arith
 
-add-i : tie.Need-overflow-add-i invariant-loop decreases-loop
+add-i : tie.Need-overflow_add-i invariant-loop decreases-loop
 add-i c = omega arith
 
-loop-less : tie.Need-loop-smaller invariant-loop decreases-loop
+loop-less : tie.Need-loop-i-smaller invariant-loop decreases-loop
 loop-less c = omega arith
 
-loop-again : tie.Need-loop-preserved invariant-loop decreases-loop
+loop-again : tie.Need-loop-i-preserved invariant-loop decreases-loop
 loop-again c =
     let h = c.before in
     let d = h.before.args.b.now in
-    let l : h.loop.i < length d = omega arith in
-    (omega arith, simp length-set h.loop.invariant.1, ap (λ x. set x h.loop.i 0) h.loop.invariant.2 ∙ fill_more h.loop.i 0 d l)
+    let l : h.loop-i.i < length d = omega arith in
+    (omega arith, simp length-set h.loop-i.invariant.1, ap (λ x. set x h.loop-i.i 0) h.loop-i.invariant.2 ∙ fill_more h.loop-i.i 0 d l)
 
-same_length : tie.Need-same-length invariant-loop decreases-loop
+same_length : tie.Need-shape_of-b invariant-loop decreases-loop
 same_length c = search rules
 
 returns : tie.Need-returns invariant-loop decreases-loop
 returns c =
     let h = c.before in
     let d = h.before.args.b.now in
-    let z : h.loop.i ≡ length d = omega arith in
-    h.loop.invariant.2 ∙ rw (z, drop_of_length-le d {i = length d} (omega arith)) (append-nil (replicate (length d) 0))
+    let z : h.loop-i.i ≡ length d = omega arith in
+    h.loop-i.invariant.2 ∙ rw (z, drop_of_length-le d {i = length d} (omega arith)) (append-nil (replicate (length d) 0))
 
 pub clear_spec : {M : Type 1} → statement M
 clear_spec =

@@ -19,14 +19,14 @@ use Rattle.pack.proofs.Batches.{keys, batch_members, Clean, clean}
 use Rattle.pack.proofs.count_members.Statement.{statement}
 use Rattle.pack.proofs.count_members.Tie as tie
 
-abbrev invariant-loop : tie.invariant-loop
+abbrev invariant-loop : tie.invariant-loop-i
 invariant-loop m batch t n members₀ i₀ members i = (i ≤ n) × (members ≡ prefix_count m m (set_below (key m batch) i)) × (members ≤ i)
 
-abbrev decreases-loop : tie.decreases-loop
+abbrev decreases-loop : tie.decreases-loop-i
 decreases-loop m batch t n members₀ i₀ members i = n - i
 
 -- the batch, of keys of the width's bytes
-module _ (c : tie.After-bytes-for invariant-loop decreases-loop) where
+module _ (c : tie.After-bytes_for-t invariant-loop decreases-loop) where
   abbrev m : ℕ
   m = c.before.before.args.m
 
@@ -36,82 +36,82 @@ module _ (c : tie.After-bytes-for invariant-loop decreases-loop) where
   abbrev batch : Clean m l
   batch = clean m l c.before.before.requires
 
-  t-is : c.bytes-for.result ≡ key_bytes m
+  t-is : c.bytes_for-t.result ≡ key_bytes m
   unfolding key_bytes
-  t-is = c.bytes-for.ensures.0
+  t-is = c.bytes_for-t.ensures.0
 
-  n-is : length l / c.bytes-for.result ≡ keys m l
+  n-is : length l / c.bytes_for-t.result ≡ keys m l
   n-is = ap (λ t. length l / t) t-is
 
-bytes-for-requires : tie.Need-bytes-for-requires invariant-loop decreases-loop
+bytes-for-requires : tie.Need-bytes_for-t-requires invariant-loop decreases-loop
 bytes-for-requires c κs = omega (arith, (clean c.before.args.m c.before.args.batch.now c.before.requires).batch.narrow)
 
-div-n : tie.Need-nonzero-div-n invariant-loop decreases-loop
+div-n : tie.Need-nonzero_div-n invariant-loop decreases-loop
 unfolding key_bytes started
 div-n c = omega (arith, t-is c, (batch c).batch.positive)
 
-loop-holds : tie.Need-loop-init invariant-loop decreases-loop
+loop-holds : tie.Need-loop-i-init invariant-loop decreases-loop
 loop-holds c = (omega arith, sym (count_start (m c) (key (m c) (l c)) (m c)), omega arith)
 
-first-new-requires : tie.Need-first-new-requires invariant-loop decreases-loop
+first-new-requires : tie.Need-first_new-requires invariant-loop decreases-loop
 first-new-requires c κs =
     let b = c.before.before in
-    subst (λ t. KeyThere (m b) t c.before.loop.i (l b)) (sym (t-is b)) (key_there (m b) (key_bytes (m b)) (keys (m b) (l b)) (l b) (batch b).batch c.before.loop.i (omega (arith, n-is b, c.loop-test.true)))
+    subst (λ t. KeyThere (m b) t c.before.loop-i.i (l b)) (sym (t-is b)) (key_there (m b) (key_bytes (m b)) (keys (m b) (l b)) (l b) (batch b).batch c.before.loop-i.i (omega (arith, n-is b, c.loop-i-test.true)))
 
-cast-members : tie.Need-overflow-cast-members invariant-loop decreases-loop
+cast-members : tie.Need-overflow_cast-members invariant-loop decreases-loop
 cast-members c = search rules
 
 -- a turn: one member more if the key is not the one before it
-module _ (c : tie.After-first-new invariant-loop decreases-loop) where
-  abbrev turn : tie.In-loop invariant-loop decreases-loop
+module _ (c : tie.After-first_new invariant-loop decreases-loop) where
+  abbrev turn : tie.In-loop-i invariant-loop decreases-loop
   turn = c.before
 
-  abbrev sized : tie.After-bytes-for invariant-loop decreases-loop
+  abbrev sized : tie.After-bytes_for-t invariant-loop decreases-loop
   sized = turn.before.before
 
   abbrev i : ℕ
-  i = turn.before.loop.i
+  i = turn.before.loop-i.i
 
   below : i < keys (m sized) (l sized)
-  below = omega (arith, n-is sized, turn.loop-test.taken)
+  below = omega (arith, n-is sized, turn.loop-i-test.true)
 
   short : keys (m sized) (l sized) < 2 ^ 64
   short = omega (arith, sized.before.before.good, few_keys (m sized) (key_bytes (m sized)) (keys (m sized) (l sized)) (l sized) (batch sized).batch)
 
-  one_more : turn.before.loop.members + bool_byte (leb c.first-new.result (m sized)) ≡ prefix_count (m sized) (m sized) (set_below (key (m sized) (l sized)) (suc i))
+  one_more : turn.before.loop-i.members + bool_byte (leb c.first_new.result (m sized)) ≡ prefix_count (m sized) (m sized) (set_below (key (m sized) (l sized)) (suc i))
   one_more =
       omega (
         arith,
-        byte_bit (leb c.first-new.result (m sized)),
-        ap (λ x. bit (leb x (m sized))) c.first-new.ensures,
-        turn.before.loop.inv.1,
+        byte_bit (leb c.first_new.result (m sized)),
+        ap (λ x. bit (leb x (m sized))) c.first_new.ensures,
+        turn.before.loop-i.invariant.1,
         count_step (m sized) (keys (m sized) (l sized)) (key (m sized) (l sized)) (batch sized).rises i (m sized) below (omega arith),
       )
 
-  no_more : turn.before.loop.members + bool_byte (leb c.first-new.result (m sized)) ≤ i + 1
-  no_more = omega (arith, byte_bit (leb c.first-new.result (m sized)), bit_le (leb c.first-new.result (m sized)), turn.before.loop.inv.2)
+  no_more : turn.before.loop-i.members + bool_byte (leb c.first_new.result (m sized)) ≤ i + 1
+  no_more = omega (arith, byte_bit (leb c.first_new.result (m sized)), bit_le (leb c.first_new.result (m sized)), turn.before.loop-i.invariant.2)
 
-add-members : tie.Need-overflow-add-members invariant-loop decreases-loop
+add-members : tie.Need-overflow_add-members invariant-loop decreases-loop
 add-members c = record { fits = omega (arith, no_more c, below c, short c) }
 
-add-i : tie.Need-overflow-add-i invariant-loop decreases-loop
+add-i : tie.Need-overflow_add-i invariant-loop decreases-loop
 add-i c = record { fits = omega (arith, below c, short c) }
 
-loop-less : tie.Need-loop-smaller invariant-loop decreases-loop
-loop-less c = omega (arith, (turn c).loop-test.true)
+loop-less : tie.Need-loop-i-smaller invariant-loop decreases-loop
+loop-less c = omega (arith, (turn c).loop-i-test.true)
 
-loop-again : tie.Need-loop-preserved invariant-loop decreases-loop
-loop-again c = (omega (arith, (turn c).loop-test.true), rw (add-one (i c)) (one_more c), no_more c)
+loop-again : tie.Need-loop-i-preserved invariant-loop decreases-loop
+loop-again c = (omega (arith, (turn c).loop-i-test.true), rw (add-one (i c)) (one_more c), no_more c)
 
 returns : tie.Need-returns invariant-loop decreases-loop
 returns c =
     let h = c.before in
     let b = h.before in
-    let z : h.loop.i ≡ keys (m b) (l b) = omega (arith, n-is b, c.loop-test.false, h.loop.invariant.0) in
-    (rw z at h.loop.invariant.1) ∙ sym (batch_members (m b) (l b))
+    let z : h.loop-i.i ≡ keys (m b) (l b) = omega (arith, n-is b, c.loop-i-test.false, h.loop-i.invariant.0) in
+    (rw z at h.loop-i.invariant.1) ∙ sym (batch_members (m b) (l b))
 
-pub count-members-spec : {M : Type 1} → statement M
-count-members-spec =
+pub count_members_spec : {M : Type 1} → statement M
+count_members_spec =
     tie.close
     (tie.spec
     invariant-loop

@@ -19,26 +19,26 @@ use Rattle.pack.proofs.KeyTests.{none_tested, one_more, first_refused, rising}
 use Rattle.pack.proofs.count_records.Statement.{statement}
 use Rattle.pack.proofs.count_records.Tie as tie
 
-abbrev invariant-loop : tie.invariant-loop
+abbrev invariant-loop : tie.invariant-loop-i
 invariant-loop batch n t m counts₀ i₀ counts i =
     (i ≤ n) × (length counts ≡ length counts₀) × (first_of (tests_below m batch i) ≡ none) × KeysCounted m m (λ (e : ℕ). 0) (key m batch) i (running counts m)
 
-abbrev decreases-loop : tie.decreases-loop
+abbrev decreases-loop : tie.decreases-loop-i
 decreases-loop batch n t m counts₀ i₀ counts i = n - i
 
 -- where a turn starts
-module _ (w : tie.In-loop invariant-loop decreases-loop) where
+module _ (w : tie.In-loop-i invariant-loop decreases-loop) where
   abbrev start : tie.Start invariant-loop decreases-loop
   start = w.before.before.before.before
 
   abbrev at : ℕ
-  at = w.before.loop.i
+  at = w.before.loop-i.i
 
   abbrev bytes : Bytes
   bytes = start.args.batch.now
 
   abbrev passed : first_of (tests_below start.args.m bytes at) ≡ none
-  passed = w.before.loop.inv.2
+  passed = w.before.loop-i.invariant.2
 
   -- the key passes with its first new length
   passes : (r : Verdict) (new : ℕ) → KeyChecked start.args.m bytes at r → r ≡ Accepted new → (first_of (tests_below start.args.m bytes (suc at)) ≡ none) × (new ≡ first_new (key start.args.m bytes) at)
@@ -46,78 +46,78 @@ module _ (w : tie.In-loop invariant-loop decreases-loop) where
       let z : KeyChecked start.args.m bytes at (Accepted new) = subst (KeyChecked start.args.m bytes at) q e in
       (one_more start.args.m bytes at passed ∙ z.0, z.1)
 
-loop-holds : tie.Need-loop-init invariant-loop decreases-loop
+loop-holds : tie.Need-loop-i-init invariant-loop decreases-loop
 loop-holds c =
     let s = c.before.before in
     (omega arith, refl, none_tested s.args.m s.args.batch.now, none_yet s.args.m s.args.m (λ e. 0) (key s.args.m s.args.batch.now) (running s.args.counts.now s.args.m) (running_zero s.args.counts.now s.args.m s.requires.zero))
 
-check-key-requires : tie.Need-check-key-requires invariant-loop decreases-loop
-check-key-requires c κs = let s = start c in key_there s.args.m s.args.t s.args.n (bytes c) s.pre.batch (at c) c.loop-test.true
+check-key-requires : tie.Need-check_key-checked-requires invariant-loop decreases-loop
+check-key-requires c κs = let s = start c in key_there s.args.m s.args.t s.args.n (bytes c) s.requires.batch (at c) c.loop-i-test.true
 
-enum-known-checked : tie.Need-enum-known-checked invariant-loop decreases-loop
+enum-known-checked : tie.Need-enum_known-checked invariant-loop decreases-loop
 enum-known-checked c = search rules
 
-same_length : tie.Need-same-length invariant-loop decreases-loop
+same_length : tie.Need-shape_of-counts-in-Refused invariant-loop decreases-loop
 same_length c = search rules
 
-returns : tie.Need-returns invariant-loop decreases-loop
+returns : tie.Need-returns-in-Refused invariant-loop decreases-loop
 returns c =
-    let k = c.before.before.before in
+    let k = c.before in
     let w = k.before in
-    first_refused (start w).args.m (bytes w) (at w) (start w).args.n c.before.checked.given.0.0 w.loop-test.true (passed w)
-    (subst (KeyChecked (start w).args.m (bytes w) (at w)) c.before.checked.given.1 k.check-key.ensures)
+    first_refused (start w).args.m (bytes w) (at w) (start w).args.n c.in-Refused.k w.loop-i-test.true (passed w)
+    (subst (KeyChecked (start w).args.m (bytes w) (at w)) c.in-Refused.is k.check_key-checked.ensures)
 
-enum-known-checked-2 : tie.Need-enum-known-checked-2 invariant-loop decreases-loop
+enum-known-checked-2 : tie.Need-enum_known-checked-in-Accepted-1 invariant-loop decreases-loop
 enum-known-checked-2 c = search rules
 
 note-requires : tie.Need-note-requires invariant-loop decreases-loop
 note-requires c κs =
-    let w = c.before.before.before.before.before in
+    let w = c.before.before.before in
     let h = w.before in
     let s = start w in (
-      omega (arith, s.pre.long, h.loop.invariant.1),
+      omega (arith, s.requires.long, h.loop-i.invariant.1),
       λ e l.
           omega (
             arith,
             s.good,
-            few_keys s.args.m s.args.t s.args.n (bytes w) s.pre.batch,
-            counted_le s.args.m (at w) (λ x. 0) (key s.args.m (bytes w)) (rising s.args.m (bytes w) (at w) (passed w)) (at w) (running h.loop.counts s.args.m) (omega arith) h.loop.invariant.3 e l,
-            noted_le h.loop.counts s.args.m e l,
-            w.loop-test.true,
+            few_keys s.args.m s.args.t s.args.n (bytes w) s.requires.batch,
+            counted_le s.args.m (at w) (λ x. 0) (key s.args.m (bytes w)) (rising s.args.m (bytes w) (at w) (passed w)) (at w) (running h.loop-i.counts s.args.m) (omega arith) h.loop-i.invariant.3 e l,
+            noted_le h.loop-i.counts s.args.m e l,
+            w.loop-i-test.true,
           ),
     )
 
-add-i : tie.Need-overflow-add-i invariant-loop decreases-loop
+add-i : tie.Need-overflow_add-i invariant-loop decreases-loop
 add-i c = search rules
 
-loop-less : tie.Need-loop-smaller invariant-loop decreases-loop
+loop-less : tie.Need-loop-i-smaller invariant-loop decreases-loop
 loop-less c = search rules
 
-loop-again : tie.Need-loop-preserved invariant-loop decreases-loop
+loop-again : tie.Need-loop-i-preserved invariant-loop decreases-loop
 loop-again c =
     let b = c.before.before in
-    let d = b.before.before.before in
-    let k = d.before.before in
+    let d = b.before.before in
+    let k = d.before in
     let w = k.before in
     let s = start w in
-    let p = passes w k.check-key.result d.checked2.given.0.0 k.check-key.ensures d.checked2.given.1 in (
-      omega (arith, w.loop-test.true),
-      b.note.auto.0 ∙ w.before.loop.invariant.1,
+    let p = passes w k.check_key-checked.result d.in-Accepted.new k.check_key-checked.ensures d.in-Accepted.is in (
+      omega (arith, w.loop-i-test.true),
+      b.note.auto.counts ∙ w.loop-i.invariant.1,
       rw (add-one (at w)) p.0,
-      counted_more s.args.m (suc (at w)) (λ x. 0) (key s.args.m (bytes w)) (rising s.args.m (bytes w) (suc (at w)) p.0) s.args.m (at w) d.checked2.given.0.0 (running w.before.loop.counts s.args.m) (running b.note.new.0 s.args.m) (omega arith) (omega arith) p.1 b.note.ensures w.before.loop.invariant.3,
+      counted_more s.args.m (suc (at w)) (λ x. 0) (key s.args.m (bytes w)) (rising s.args.m (bytes w) (suc (at w)) p.0) s.args.m (at w) d.in-Accepted.new (running w.loop-i.counts s.args.m) (running b.note.new.counts s.args.m) (omega arith) (omega arith) p.1 b.note.ensures w.loop-i.invariant.3,
     )
 
-same-length-2 : tie.Need-same-length-2 invariant-loop decreases-loop
+same-length-2 : tie.Need-shape_of-counts invariant-loop decreases-loop
 same-length-2 c = search rules
 
-returns-2 : tie.Need-returns-2 invariant-loop decreases-loop
+returns-2 : tie.Need-returns invariant-loop decreases-loop
 returns-2 c =
     let h = c.before in
-    let z : h.loop.i ≡ h.before.before.before.args.n = omega (arith, c.loop-test.false, h.loop.invariant.0) in
-    (rw z at h.loop.invariant.2, λ e l. omega (arith, rw z at (h.loop.invariant.3 e l)), refl)
+    let z : h.loop-i.i ≡ h.before.before.before.args.n = omega (arith, c.loop-i-test.false, h.loop-i.invariant.0) in
+    (rw z at h.loop-i.invariant.2, λ e l. omega (arith, rw z at (h.loop-i.invariant.3 e l)), refl)
 
-pub count-records-spec : {M : Type 1} → statement M
-count-records-spec =
+pub count_records_spec : {M : Type 1} → statement M
+count_records_spec =
     tie.close
     (tie.spec
     invariant-loop

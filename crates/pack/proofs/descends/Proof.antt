@@ -12,7 +12,7 @@ use Rattle.pack.proofs.descends.Statement.{statement}
 use Rattle.pack.proofs.descends.Tie as tie
 
 -- the key before lies before the key
-module _ (c : tie.Else2) where
+module _ (c : tie.Else-new-m) where
   abbrev start : tie.Start
   start = c.before.before.before
 
@@ -20,55 +20,55 @@ module _ (c : tie.Else2) where
   bytes = start.args.batch.now
 
   lies : start.args.t * start.args.i ≡ start.args.t * (start.args.i - 1) + start.args.t
-  lies = before start.args.m start.args.t start.args.i bytes start.pre.0 c.before.if1.false
+  lies = before start.args.m start.args.t start.args.i bytes start.requires.0 c.before.if-i-eq0.false
 
   room : start.args.t * start.args.i + start.args.t ≤ length bytes
-  room = far start.args.m start.args.t start.args.i bytes start.pre.0
+  room = far start.args.m start.args.t start.args.i bytes start.requires.0
 
   one : 1 ≤ start.args.new
-  one = some_new start.args.m start.args.t start.args.i start.args.new bytes start.pre.0 c.before.if1.false start.pre.1
+  one = some_new start.args.m start.args.t start.args.i start.args.new bytes start.requires.0 c.before.if-i-eq0.false start.requires.1
 
-returns : tie.Need-returns
-returns c = let a = c.before.before.args in first_rises (key a.m a.batch.now) a.i c.if1.true
+returns : tie.Need-returns-then-i-eq0
+returns c = let a = c.before.before.args in first_rises (key a.m a.batch.now) a.i c.if-i-eq0.true
 
-returns-2 : tie.Need-returns-2
+returns-2 : tie.Need-returns-then-new-m
 returns-2 c =
     let s = c.before.before.before in
-    all_common s.args.m s.args.t s.args.i s.args.new s.args.batch.now s.requires.0 c.before.if1.false s.requires.1 c.if2.true
+    all_common s.args.m s.args.t s.args.i s.args.new s.args.batch.now s.requires.0 c.before.if-i-eq0.false s.requires.1 c.if-new-m.true
 
-sub-before : tie.Need-overflow-sub-before
+sub-before : tie.Need-overflow_sub-before
 sub-before c = search rules
 
-mul-before : tie.Need-overflow-mul-before
+mul-before : tie.Need-overflow_mul-before
 mul-before c = record { fits = omega (arith, lies c, room c, (start c).well-formed) }
 
-sub-bit-at : tie.Need-overflow-sub-bit-at
+sub-bit-at : tie.Need-slice_bounds-bit_at-count
 sub-bit-at c = omega (arith, lies c, room c)
 
-part-bit-at-start : tie.Need-slice-bounds-bit-at-start
+part-bit-at-start : tie.Need-slice_bounds-bit_at-start
 part-bit-at-start c = omega (arith, lies c, room c)
 
-part-bit-at-end : tie.Need-slice-bounds-bit-at-end
+part-bit-at-end : tie.Need-slice_bounds-bit_at-end
 part-bit-at-end c = search rules
 
-sub-bit-at-2 : tie.Need-overflow-sub-bit-at-2
+sub-bit-at-2 : tie.Need-overflow_sub-new
 sub-bit-at-2 c = one c.before
 
-bit-at-requires : tie.Need-bit-at-requires
+bit-at-requires : tie.Need-bit_at-requires
 unfolding key_bytes started
 bit-at-requires c κs =
     let e = c.before in
     let a = (start e).args in
     omega (arith, length_lent (bytes e) (a.t * (a.i - 1)), lies e, room e, (start e).requires.0.size, one e)
 
-returns-3 : tie.Need-returns-3
+returns-3 : tie.Need-returns
 returns-3 c =
     let e = c.before.before in
     let s = start e in
-    c.bit_at.ensures ∙ old_bit s.args.m s.args.t s.args.i s.args.new (bytes e) s.pre.0 e.before.if1.false s.pre.1 e.if2.false
+    c.bit_at.ensures ∙ old_bit s.args.m s.args.t s.args.i s.args.new (bytes e) s.requires.0 e.before.if-i-eq0.false s.requires.1 e.if-new-m.false
 
-pub descends-spec : {M : Type 1} → statement M
-descends-spec =
+pub descends_spec : {M : Type 1} → statement M
+descends_spec =
     tie.close
     (tie.spec
     returns

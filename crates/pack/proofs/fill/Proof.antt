@@ -16,32 +16,32 @@ use Rattle.pack.proofs.fill.Tie as tie
 good : (s : tie.Start) → Clean s.args.m s.args.batch.now
 good s = whole s.args.m s.args.batch.now s.args.levels.now s.args.edges.now s.requires
 
-bytes-for-requires : tie.Need-bytes-for-requires
+bytes-for-requires : tie.Need-bytes_for-t-requires
 bytes-for-requires c κs = omega (arith, (good c.before.before.before).batch.narrow)
 
-t-is : (b : tie.After-bytes-for) → b.bytes-for.result ≡ key_bytes b.before.before.before.before.args.m
+t-is : (b : tie.After-bytes_for-t) → b.bytes_for-t.result ≡ key_bytes b.before.before.before.before.args.m
 unfolding key_bytes
-t-is b = b.bytes-for.ensures.0
+t-is b = b.bytes_for-t.ensures.0
 
 clear-requires : tie.Need-clear-requires
 clear-requires c κs = search rules
 
-div-mark-all : tie.Need-nonzero-div-mark-all
+div-mark-all : tie.Need-nonzero_div-batch
 unfolding key_bytes started
 div-mark-all c = omega (arith, t-is c.before.before.before.before, (good c.before.before.before.before.before.before.before.before).batch.positive)
 
-mark-all-requires : tie.Need-mark-all-requires
+mark-all-requires : tie.Need-mark_all-requires
 mark-all-requires c κs =
     let v = c.before.before.before.before in
     let b = v.before.before in
     let s = b.before.before.before.before in
-    subst (λ t. Unmarked s.args.m t (length s.args.batch.now / t) s.args.batch.now s.args.levels.now v.clear.new.0) (sym (t-is b))
-    (unmarked s.args.m s.args.batch.now s.args.levels.now s.args.edges.now s.requires v.clear.new.0 v.clear.ensures)
+    subst (λ t. Unmarked s.args.m t (length s.args.batch.now / t) s.args.batch.now s.args.levels.now v.clear.new.b) (sym (t-is b))
+    (unmarked s.args.m s.args.batch.now s.args.levels.now s.args.edges.now s.requires v.clear.new.b v.clear.ensures)
 
-same_length : tie.Need-same-length
+same_length : tie.Need-shape_of-levels
 same_length c = search rules
 
-same-length-2 : tie.Need-same-length-2
+same-length-2 : tie.Need-shape_of-edges
 same-length-2 c = search rules
 
 returns : tie.Need-returns
@@ -52,7 +52,7 @@ returns c =
     let s = b.before.before.before.before in
     let m : ℕ = s.args.m in
     let l : Bytes = s.args.batch.now in
-    filled m l k.mark-all.new.1.1.1.1.1.0 (k.mark-all.ensures ∙ ap (λ t. pack_bits (edges m (set_below (key m l) (length l / t)))) (t-is b))
+    filled m l k.mark_all.new.edges (k.mark_all.ensures ∙ ap (λ t. pack_bits (edges m (set_below (key m l) (length l / t)))) (t-is b))
 
 pub fill_spec : {M : Type 1} → statement M
 fill_spec =

@@ -5,11 +5,11 @@ use Rattle.pack.proofs.Differences.{first_difference}
 use Rattle.pack.proofs.first_difference.Statement.{statement}
 use Rattle.pack.proofs.first_difference.Tie as tie
 
-cast-result : tie.Need-overflow-cast-result
+cast-result : tie.Need-overflow_cast-result
 cast-result c = record { fits = omega (arith, leading_le 8 (bit_xor c.args.p c.args.q)) }
 
 returns : tie.Need-returns
 returns c = first_difference c.args.p c.args.q (omega (arith, c.well-formed)) (omega (arith, c.well-formed)) c.requires
 
-pub first-difference-spec : {M : Type 1} → statement M
-first-difference-spec = tie.close (tie.spec cast-result returns)
+pub first_difference_spec : {M : Type 1} → statement M
+first_difference_spec = tie.close (tie.spec cast-result returns)

@@ -7,56 +7,56 @@ use Rattle.pack.proofs.Places.{lent, length_lent, common_max, new_first, far, be
 use Rattle.pack.proofs.first_new.Statement.{statement}
 use Rattle.pack.proofs.first_new.Tie as tie
 
-returns : tie.Need-returns
-returns c = let a = c.before.before.args in new_first (key a.m a.batch.now) a.i c.if1.true
+returns : tie.Need-returns-then-i-eq0
+returns c = let a = c.before.before.args in new_first (key a.m a.batch.now) a.i c.if-i-eq0.true
 
 room : (s : tie.Start) → s.args.t * s.args.i + s.args.t ≤ length s.args.batch.now
 room s = far s.args.m s.args.t s.args.i s.args.batch.now s.requires
 
-mul_at : tie.Need-overflow-mul-at
+mul_at : tie.Need-overflow_mul-at
 mul_at c = record { fits = omega (arith, room c.before.before, c.before.before.well-formed) }
 
-sub-common-prefix : tie.Need-overflow-sub-common-prefix
+sub-common-prefix : tie.Need-overflow_sub-at
 sub-common-prefix c =
     let s = c.before.before in
-    omega (arith, before s.args.m s.args.t s.args.i s.args.batch.now s.requires c.if1.false)
+    omega (arith, before s.args.m s.args.t s.args.i s.args.batch.now s.requires c.if-i-eq0.false)
 
-sub-common-prefix-2 : tie.Need-overflow-sub-common-prefix-2
+sub-common-prefix-2 : tie.Need-slice_bounds-common_prefix-count
 sub-common-prefix-2 c = search rules
 
-part-common-prefix-start : tie.Need-slice-bounds-common-prefix-start
+part-common-prefix-start : tie.Need-slice_bounds-common_prefix-start
 part-common-prefix-start c = search rules
 
-part-common-prefix-end : tie.Need-slice-bounds-common-prefix-end
+part-common-prefix-end : tie.Need-slice_bounds-common_prefix-end
 part-common-prefix-end c = search rules
 
-sub-common-prefix-3 : tie.Need-overflow-sub-common-prefix-3
+sub-common-prefix-3 : tie.Need-slice_bounds-common_prefix-count-2
 sub-common-prefix-3 c = search rules
 
-part-common-prefix-start-2 : tie.Need-slice-bounds-common-prefix-start-2
+part-common-prefix-start-2 : tie.Need-slice_bounds-common_prefix-start-2
 part-common-prefix-start-2 c = search rules
 
-part-common-prefix-end-2 : tie.Need-slice-bounds-common-prefix-end-2
+part-common-prefix-end-2 : tie.Need-slice_bounds-common_prefix-end-2
 part-common-prefix-end-2 c = search rules
 
-common-prefix-requires : tie.Need-common-prefix-requires
+common-prefix-requires : tie.Need-common_prefix-requires
 common-prefix-requires c κs =
     let s = c.before.before.before.before in
     let l = s.args.batch.now in
     (s.requires.narrow, (omega (arith, room s, s.requires.size, length_lent l (s.args.t * s.args.i - s.args.t)), omega (arith, room s, s.requires.size, length_lent l (s.args.t * s.args.i))))
 
-add-result : tie.Need-overflow-add-result
+add-result : tie.Need-overflow_add-result
 add-result c =
     let a = c.before.before.before.before.before.args in
-    omega (arith, c.common-prefix.ensures, common_max a.m (lent a.batch.now (a.t * a.i - a.t)) (lent a.batch.now (a.t * a.i)))
+    omega (arith, c.common_prefix.ensures, common_max a.m (lent a.batch.now (a.t * a.i - a.t)) (lent a.batch.now (a.t * a.i)))
 
-returns-2 : tie.Need-returns-2
+returns-2 : tie.Need-returns
 returns-2 c =
     let s = c.before.before.before.before.before in
-    new_at s.args.m s.args.t s.args.i s.args.batch.now s.requires c.common-prefix.result c.before.before.before.if1.false c.common-prefix.ensures
+    new_at s.args.m s.args.t s.args.i s.args.batch.now s.requires c.common_prefix.result c.before.before.before.if-i-eq0.false c.common_prefix.ensures
 
-pub first-new-spec : {M : Type 1} → statement M
-first-new-spec =
+pub first_new_spec : {M : Type 1} → statement M
+first_new_spec =
     tie.close
     (tie.spec
     returns

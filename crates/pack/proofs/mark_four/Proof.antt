@@ -11,7 +11,7 @@ use Rattle.pack.proofs.mark_four.Statement.{statement}
 use Rattle.pack.proofs.mark_four.Tie as tie
 
 -- the four bits are told
-module _ (k : tie.After-key-bit4) where
+module _ (k : tie.After-key_bit-s) where
   abbrev start : tie.Start
   start = k.before.before.before.before.before.before.before.before
 
@@ -27,12 +27,12 @@ module _ (k : tie.After-key-bit4) where
   low : (j : ℕ) → b j ≤ 1
   low j = bit_le (bit_at (drop (start.args.t * j) start.args.batch.now) start.args.e)
 
-  bits : (k.before.before.before.key_bit.result ≤ 1) × (k.before.before.key-bit2.result ≤ 1) × (k.before.key-bit3.result ≤ 1) × (k.key-bit4.result ≤ 1)
+  bits : (k.before.before.before.key_bit-p.result ≤ 1) × (k.before.before.key_bit-q.result ≤ 1) × (k.before.key_bit-r.result ≤ 1) × (k.key_bit-s.result ≤ 1)
   bits = (
-    omega (arith, k.before.before.before.key_bit.ensures, low i),
-    omega (arith, k.before.before.key-bit2.ensures, low (i + 1)),
-    omega (arith, k.before.key-bit3.ensures, low (i + 2)),
-    omega (arith, k.key-bit4.ensures, low (i + 3)),
+    omega (arith, k.before.before.before.key_bit-p.ensures, low i),
+    omega (arith, k.before.before.key_bit-q.ensures, low (i + 1)),
+    omega (arith, k.before.key_bit-r.ensures, low (i + 2)),
+    omega (arith, k.key_bit-s.ensures, low (i + 3)),
   )
 
   abbrev at : ℕ
@@ -40,75 +40,75 @@ module _ (k : tie.After-key-bit4) where
 
   byte-is : (j : ℕ) → j < 4 → o (i + j) / 8 ≡ at
   unfolding row_offset
-  byte-is j h = omega (arith, low (i + j), start.pre.2)
+  byte-is j h = omega (arith, low (i + j), start.requires.2)
 
   -- the table's entry
   mask_is : (j v : ℕ) → j < 4 → v ≡ b (i + j) → get_or start.args.masks.now (2 * j + v) 0 ≡ 2 ^ (7 - o (i + j) % 8)
   unfolding row_offset
   mask_is j v h e =
-      let z : o (i + j) % 8 ≡ 2 * j + v = unfold row_offset in omega (arith, low (i + j), start.pre.2, e) in
-      start.pre.1.rule (2 * j + v) (omega (arith, low (i + j), e)) ∙ rw z
+      let z : o (i + j) % 8 ≡ 2 * j + v = unfold row_offset in omega (arith, low (i + j), start.requires.2, e) in
+      start.requires.1.rule (2 * j + v) (omega (arith, low (i + j), e)) ∙ rw z
 
-  first-is : k.before.before.before.key_bit.result ≡ b (i + 0)
-  first-is = let z : i + 0 ≡ i = omega arith in rw z k.before.before.before.key_bit.ensures
+  first-is : k.before.before.before.key_bit-p.result ≡ b (i + 0)
+  first-is = let z : i + 0 ≡ i = omega arith in rw z k.before.before.before.key_bit-p.ensures
 
-  first-mask : get_or start.args.masks.now k.before.before.before.key_bit.result 0 ≡ 2 ^ (7 - o (i + 0) % 8)
+  first-mask : get_or start.args.masks.now k.before.before.before.key_bit-p.result 0 ≡ 2 ^ (7 - o (i + 0) % 8)
   first-mask =
-      let z : k.before.before.before.key_bit.result ≡ 2 * 0 + k.before.before.before.key_bit.result = omega arith in
-      ap (λ x. get_or start.args.masks.now x 0) z ∙ mask_is 0 k.before.before.before.key_bit.result (omega arith) first-is
+      let z : k.before.before.before.key_bit-p.result ≡ 2 * 0 + k.before.before.before.key_bit-p.result = omega arith in
+      ap (λ x. get_or start.args.masks.now x 0) z ∙ mask_is 0 k.before.before.before.key_bit-p.result (omega arith) first-is
 
-add-record : tie.Need-overflow-add-record
+add-record : tie.Need-overflow_add-record
 add-record c = search rules
 
-key-bit-requires : tie.Need-key-bit-requires
+key-bit-requires : tie.Need-key_bit-p-requires
 key-bit-requires c κs = search rules
 
-add-key-bit : tie.Need-overflow-add-key-bit
+add-key-bit : tie.Need-overflow_add-i
 add-key-bit c = search rules
 
-key-bit-requires-2 : tie.Need-key-bit-requires-2
+key-bit-requires-2 : tie.Need-key_bit-q-requires
 key-bit-requires-2 c κs = search rules
 
-add-key-bit-2 : tie.Need-overflow-add-key-bit-2
+add-key-bit-2 : tie.Need-overflow_add-i-2
 add-key-bit-2 c = search rules
 
-key-bit-requires-3 : tie.Need-key-bit-requires-3
+key-bit-requires-3 : tie.Need-key_bit-r-requires
 key-bit-requires-3 c κs = search rules
 
-add-key-bit-3 : tie.Need-overflow-add-key-bit-3
+add-key-bit-3 : tie.Need-overflow_add-i-3
 add-key-bit-3 c = search rules
 
-key-bit-requires-4 : tie.Need-key-bit-requires-4
+key-bit-requires-4 : tie.Need-key_bit-s-requires
 key-bit-requires-4 c κs = search rules
 
-slice-read-x : tie.Need-slice-read-x
+slice-read-x : tie.Need-bounds-edges-at
 slice-read-x c = search rules
 
-shared-slice-read-edges : tie.Need-shared-slice-read-edges
+shared-slice-read-edges : tie.Need-bounds-masks-p
 shared-slice-read-edges c = let k = c.before.before in let b = bits k in omega (arith, (start k).requires.1.size)
 
-add-edges : tie.Need-overflow-add-edges
+add-edges : tie.Need-overflow_add-edges
 add-edges c = let k = c.before.before in let b = bits k in record { fits = omega arith }
 
-shared-slice-read-edges-2 : tie.Need-shared-slice-read-edges-2
+shared-slice-read-edges-2 : tie.Need-bounds-masks-q
 shared-slice-read-edges-2 c = let k = c.before.before.before in let b = bits k in omega (arith, (start k).requires.1.size)
 
-add-edges-2 : tie.Need-overflow-add-edges-2
+add-edges-2 : tie.Need-overflow_add-edges-2
 add-edges-2 c = let k = c.before.before.before in let b = bits k in record { fits = omega arith }
 
-shared-slice-read-edges-3 : tie.Need-shared-slice-read-edges-3
+shared-slice-read-edges-3 : tie.Need-bounds-masks-r
 shared-slice-read-edges-3 c = let k = c.before.before.before.before in let b = bits k in omega (arith, (start k).requires.1.size)
 
-add-edges-3 : tie.Need-overflow-add-edges-3
+add-edges-3 : tie.Need-overflow_add-edges-3
 add-edges-3 c = let k = c.before.before.before.before in let b = bits k in record { fits = omega arith }
 
-shared-slice-read-edges-4 : tie.Need-shared-slice-read-edges-4
+shared-slice-read-edges-4 : tie.Need-bounds-masks-s
 shared-slice-read-edges-4 c = let k = c.before.before.before.before.before in let b = bits k in omega (arith, (start k).requires.1.size)
 
-slice-write-edges : tie.Need-slice-write-edges
+slice-write-edges : tie.Need-bounds-edges-at-2
 slice-write-edges c = search rules
 
-same_length : tie.Need-same-length
+same_length : tie.Need-shape_of-edges
 same_length c = search rules
 
 returns : tie.Need-returns
@@ -116,12 +116,12 @@ returns c =
     let k = c.before.before.before.before.before in
     bits_four (at k) (start k).args.edges.now (omega (arith, (start k).requires.0.fit)) (o k) (i k) _ _ _ _ (byte-is k)
     (first-mask k)
-    (mask_is k 1 k.before.before.key-bit2.result (omega arith) k.before.before.key-bit2.ensures)
-    (mask_is k 2 k.before.key-bit3.result (omega arith) k.before.key-bit3.ensures)
-    (mask_is k 3 k.key-bit4.result (omega arith) k.key-bit4.ensures)
+    (mask_is k 1 k.before.before.key_bit-q.result (omega arith) k.before.before.key_bit-q.ensures)
+    (mask_is k 2 k.before.key_bit-r.result (omega arith) k.before.key_bit-r.ensures)
+    (mask_is k 3 k.key_bit-s.result (omega arith) k.key_bit-s.ensures)
 
-pub mark-four-spec : {M : Type 1} → statement M
-mark-four-spec =
+pub mark_four_spec : {M : Type 1} → statement M
+mark_four_spec =
     tie.close
     (tie.spec
     add-record

@@ -24,18 +24,18 @@ base m s e = records_before e m s
 abbrev up_to : ℕ → ℕ → (ℕ → Key) → ℕ → ℕ → Bytes
 up_to m n f top i = pack_bits (marked_edges m m (set_below f n) (split_at top (set_below f i) (set_below f n)))
 
-abbrev invariant-loop : tie.invariant-loop
+abbrev invariant-loop : tie.invariant-loop-i
 invariant-loop batch n t m top cursors₀ edges₀ masks i₀ cursors edges i =
     (i ≤ n) × (length cursors ≡ length cursors₀) × (length edges ≡ length edges₀)
     × KeysCounted top m (base m (set_below (key m batch) n)) (key m batch) i cursors
     × (edges ≡ up_to m n (key m batch) top i)
 
-abbrev decreases-loop : tie.decreases-loop
+abbrev decreases-loop : tie.decreases-loop-i
 decreases-loop batch n t m top cursors₀ edges₀ masks i₀ cursors edges i = n - i
 
 -- a turn: its key, and that there is room for it
-module _ (w : tie.In-loop invariant-loop decreases-loop) where
-  abbrev head : tie.At-loop invariant-loop decreases-loop
+module _ (w : tie.In-loop-i invariant-loop decreases-loop) where
+  abbrev head : tie.At-loop-i invariant-loop decreases-loop
   head = w.before
 
   abbrev start : tie.Start invariant-loop decreases-loop
@@ -57,20 +57,20 @@ module _ (w : tie.In-loop invariant-loop decreases-loop) where
   f = key m bytes
 
   abbrev i : ℕ
-  i = head.loop.i
+  i = head.loop-i.i
 
   there : KeyThere m start.args.t i bytes
-  there = key_there m start.args.t n bytes start.pre.0.0.batch i w.loop-test.taken
+  there = key_there m start.args.t n bytes start.requires.0.0.batch i w.loop-i-test.true
 
   room : start.args.t * i + start.args.t ≤ length bytes
   room = far m start.args.t i bytes there
 
-  long : length head.loop.edges ≡ started 8 (2 * records_before m m (set_below f n))
+  long : length head.loop-i.edges ≡ started 8 (2 * records_before m m (set_below f n))
   long =
-      ap length head.loop.inv.4 ∙ length_packed (marked_edges m m (set_below f n) (split_at top (set_below f i) (set_below f n)))
+      ap length head.loop-i.invariant.4 ∙ length_packed (marked_edges m m (set_below f n) (split_at top (set_below f i) (set_below f n)))
       ∙ ap (started 8) (length_edges m m (set_below f n) (split_at top (set_below f i) (set_below f n)) (omega arith))
 
-loop-holds : tie.Need-loop-init invariant-loop decreases-loop
+loop-holds : tie.Need-loop-i-init invariant-loop decreases-loop
 loop-holds c =
     let s = c.before.before.before.before in
     let m = s.args.m in
@@ -83,62 +83,62 @@ loop-holds c =
       s.requires.1.0 ∙ sym (ap pack_bits (from_is s.args.top m g S s.requires.0.1.most)),
     )
 
-first-new-requires : tie.Need-first-new-requires invariant-loop decreases-loop
+first-new-requires : tie.Need-first_new-new-requires invariant-loop decreases-loop
 first-new-requires c κs = there c
 
-mul_at : tie.Need-overflow-mul-at invariant-loop decreases-loop
+mul_at : tie.Need-overflow_mul-at invariant-loop decreases-loop
 mul_at c = record { fits = omega (arith, room c.before, (start c.before).good) }
 
-sub-mark-key : tie.Need-overflow-sub-mark-key invariant-loop decreases-loop
+sub-mark-key : tie.Need-slice_bounds-mark_key-count invariant-loop decreases-loop
 sub-mark-key c = omega (arith, room c.before)
 
-part-mark-key-start : tie.Need-slice-bounds-mark-key-start invariant-loop decreases-loop
+part-mark-key-start : tie.Need-slice_bounds-mark_key-start invariant-loop decreases-loop
 part-mark-key-start c = omega (arith, room c.before)
 
-part-mark-key-end : tie.Need-slice-bounds-mark-key-end invariant-loop decreases-loop
+part-mark-key-end : tie.Need-slice_bounds-mark_key-end invariant-loop decreases-loop
 part-mark-key-end c = search rules
 
-mark-key-requires : tie.Need-mark-key-requires invariant-loop decreases-loop
+mark-key-requires : tie.Need-mark_key-requires invariant-loop decreases-loop
 mark-key-requires c κs =
     let g = c.before.before.before in
     let w = g.before in
     let s = start w in
-    let k = s.pre.0.0 in (
-      room_mark (m w) (n w) (f w) k.rising (top w) (i w) g.first-new.result (head w).loop.cursors s.pre.0.1.most w.loop-test.true (head w).loop.invariant.3 g.first-new.ensures _ (head w).loop.edges
+    let k = s.requires.0.0 in (
+      room_mark (m w) (n w) (f w) k.rising (top w) (i w) g.first_new-new.result (head w).loop-i.cursors s.requires.0.1.most w.loop-i-test.true (head w).loop-i.invariant.3 g.first_new-new.ensures _ (head w).loop-i.edges
           (key_lent (m w) s.args.t (i w) (bytes w) (there w))
           (omega (arith, room w, k.batch.size, length_lent (bytes w) (s.args.t * i w)))
-          (omega (arith, k.long, (head w).loop.invariant.1)) k.few (long w),
-      s.pre.1.1,
+          (omega (arith, k.long, (head w).loop-i.invariant.1)) k.few (long w),
+      s.requires.1.1,
     )
 
-add-i : tie.Need-overflow-add-i invariant-loop decreases-loop
+add-i : tie.Need-overflow_add-i invariant-loop decreases-loop
 add-i c = search rules
 
-loop-less : tie.Need-loop-smaller invariant-loop decreases-loop
+loop-less : tie.Need-loop-i-smaller invariant-loop decreases-loop
 loop-less c = search rules
 
-loop-again : tie.Need-loop-preserved invariant-loop decreases-loop
+loop-again : tie.Need-loop-i-preserved invariant-loop decreases-loop
 loop-again c =
     let k = c.before.before.before.before in
     let g = k.before.before.before.before in
     let w = g.before in
     let h = head w in
     let s = start w in
-    let a = s.pre.0 in (
-      omega (arith, w.loop-test.true),
-      k.mark_key.auto.1.1.1.0 ∙ h.loop.inv.1,
-      k.mark_key.auto.1.1.1.1.0 ∙ h.loop.inv.2,
-      counted_more (m w) (n w) (base (m w) (set_below (f w) (n w))) (f w) a.0.rising (top w) (i w) g.first-new.result h.loop.cursors k.mark_key.new.1.1.1.0
-          a.1.most w.loop-test.true g.first-new.ensures k.mark_key.ensures.0 h.loop.inv.3,
-      marks (m w) (n w) (f w) a.0.rising (top w) (i w) g.first-new.result h.loop.cursors a.1.most w.loop-test.true h.loop.inv.3 g.first-new.ensures _ h.loop.edges k.mark_key.new.1.1.1.1.0 (set_below (f w) (n w))
+    let a = s.requires.0 in (
+      omega (arith, w.loop-i-test.true),
+      k.mark_key.auto.cursors ∙ h.loop-i.invariant.1,
+      k.mark_key.auto.edges ∙ h.loop-i.invariant.2,
+      counted_more (m w) (n w) (base (m w) (set_below (f w) (n w))) (f w) a.0.rising (top w) (i w) g.first_new-new.result h.loop-i.cursors k.mark_key.new.cursors
+          a.1.most w.loop-i-test.true g.first_new-new.ensures k.mark_key.ensures.0 h.loop-i.invariant.3,
+      marks (m w) (n w) (f w) a.0.rising (top w) (i w) g.first_new-new.result h.loop-i.cursors a.1.most w.loop-i-test.true h.loop-i.invariant.3 g.first_new-new.ensures _ h.loop-i.edges k.mark_key.new.edges (set_below (f w) (n w))
           (key_lent (m w) s.args.t (i w) (bytes w) (there w))
-          (omega (arith, g.first-new.ensures, new_top (m w) s.args.t (n w) (bytes w) s.args.cursors.now a.0 (top w) a.1 (i w) w.loop-test.true)) h.loop.inv.4 k.mark_key.ensures.1,
+          (omega (arith, g.first_new-new.ensures, new_top (m w) s.args.t (n w) (bytes w) s.args.cursors.now a.0 (top w) a.1 (i w) w.loop-i-test.true)) h.loop-i.invariant.4 k.mark_key.ensures.1,
     )
 
-same_length : tie.Need-same-length invariant-loop decreases-loop
+same_length : tie.Need-shape_of-cursors invariant-loop decreases-loop
 same_length c = search rules
 
-same-length-2 : tie.Need-same-length-2 invariant-loop decreases-loop
+same-length-2 : tie.Need-shape_of-edges invariant-loop decreases-loop
 same-length-2 c = search rules
 
 returns : tie.Need-returns invariant-loop decreases-loop
@@ -147,11 +147,11 @@ returns c =
     let s = h.before.before.before.before.before in
     let g = key s.args.m s.args.batch.now in
     let S = set_below g s.args.n in
-    let z : h.loop.i ≡ s.args.n = omega (arith, c.loop-test.false, h.loop.invariant.0) in
-    h.loop.invariant.4 ∙ ap (up_to s.args.m s.args.n g s.args.top) z ∙ ap pack_bits (split_same s.args.m s.args.top S S) ∙ mark_end s.args.m S
+    let z : h.loop-i.i ≡ s.args.n = omega (arith, c.loop-i-test.false, h.loop-i.invariant.0) in
+    h.loop-i.invariant.4 ∙ ap (up_to s.args.m s.args.n g s.args.top) z ∙ ap pack_bits (split_same s.args.m s.args.top S S) ∙ mark_end s.args.m S
 
-pub mark-keys-spec : {M : Type 1} → statement M
-mark-keys-spec =
+pub mark_keys_spec : {M : Type 1} → statement M
+mark_keys_spec =
     tie.close
     (tie.spec
     invariant-loop

@@ -18,15 +18,15 @@ use Rattle.pack.proofs.mark_levels.Tie as tie
 abbrev from : ℕ → ℕ → (ℕ → Key) → ℕ → Bytes
 from m n f e = pack_bits (marked_edges m m (set_below f n) (split_at e (set_below f 0) (set_below f n)))
 
-abbrev invariant-loop : tie.invariant-loop
+abbrev invariant-loop : tie.invariant-loop-e
 invariant-loop batch n t m top starts edges₀ masks e₀ edges e = (top ≤ e) × (e ≤ m) × (length edges ≡ length edges₀) × (edges ≡ from m n (key m batch) e)
 
-abbrev decreases-loop : tie.decreases-loop
+abbrev decreases-loop : tie.decreases-loop-e
 decreases-loop batch n t m top starts edges₀ masks e₀ edges e = e
 
 -- a turn: the level before the last one marked
-module _ (w : tie.In-loop invariant-loop decreases-loop) where
-  abbrev head : tie.At-loop invariant-loop decreases-loop
+module _ (w : tie.In-loop-e invariant-loop decreases-loop) where
+  abbrev head : tie.At-loop-e invariant-loop decreases-loop
   head = w.before
 
   abbrev start : tie.Start invariant-loop decreases-loop
@@ -42,21 +42,21 @@ module _ (w : tie.In-loop invariant-loop decreases-loop) where
   l = start.args.batch.now
 
   abbrev e : ℕ
-  e = head.loop.e - 1
+  e = head.loop-e.e - 1
 
-  next : suc e ≡ head.loop.e
-  next = omega (arith, w.loop-test.taken)
+  next : suc e ≡ head.loop-e.e
+  next = omega (arith, w.loop-e-test.true)
 
   behind : start.args.top ≤ e
-  behind = omega (arith, w.loop-test.taken)
+  behind = omega (arith, w.loop-e-test.true)
 
   within : e < m
-  within = omega (arith, w.loop-test.taken, head.loop.inv.1)
+  within = omega (arith, w.loop-e-test.true, head.loop-e.invariant.1)
 
-  long : length head.loop.edges ≡ started 8 (2 * records_before m m (set_below (key m l) n))
-  long = head.loop.inv.2 ∙ ap length start.pre.0.clear ∙ length-replicate _ 0
+  long : length head.loop-e.edges ≡ started 8 (2 * records_before m m (set_below (key m l) n))
+  long = head.loop-e.invariant.2 ∙ ap length start.requires.0.clear ∙ length-replicate _ 0
 
-loop-holds : tie.Need-loop-init invariant-loop decreases-loop
+loop-holds : tie.Need-loop-e-init invariant-loop decreases-loop
 loop-holds c =
     let s = c.before.before.before.before in
     let m = s.args.m in
@@ -64,25 +64,25 @@ loop-holds c =
     let S = set_below f s.args.n in
     (s.requires.1.most, omega arith, refl, s.requires.0.clear ∙ sym (ap pack_bits (split_all m S (set_below f 0) S) ∙ mark_start m S f))
 
-sub-e : tie.Need-overflow-sub-e invariant-loop decreases-loop
-sub-e c = omega (arith, c.loop-test.true)
+sub-e : tie.Need-overflow_sub-e invariant-loop decreases-loop
+sub-e c = omega (arith, c.loop-e-test.true)
 
-mul-first : tie.Need-overflow-mul-first invariant-loop decreases-loop
+mul-first : tie.Need-offset_bounds-starts-e invariant-loop decreases-loop
 mul-first c = omega (arith, (start c).well-formed, (start c).requires.0.keys.long, within c)
 
-shared-slice-read-first : tie.Need-shared-slice-read-first invariant-loop decreases-loop
+shared-slice-read-first : tie.Need-bounds-starts-e invariant-loop decreases-loop
 shared-slice-read-first c = let w = c.before in omega (arith, (start w).requires.0.keys.long, within w)
 
-mark-level-requires : tie.Need-mark-level-requires invariant-loop decreases-loop
+mark-level-requires : tie.Need-mark_level-requires invariant-loop decreases-loop
 mark-level-requires c κs =
     let w = c.before.before in
     let s = start w in
-    (row_there (m w) s.args.t (n w) (l w) s.args.starts.now s.pre.0.keys s.args.top s.pre.1 (e w) (behind w) (within w) (head w).loop.edges (long w), s.pre.2)
+    (row_there (m w) s.args.t (n w) (l w) s.args.starts.now s.requires.0.keys s.args.top s.requires.1 (e w) (behind w) (within w) (head w).loop-e.edges (long w), s.requires.2)
 
-loop-less : tie.Need-loop-smaller invariant-loop decreases-loop
-loop-less c = let w = c.before.before.before.before.before in omega (arith, w.loop-test.true)
+loop-less : tie.Need-loop-e-smaller invariant-loop decreases-loop
+loop-less c = let w = c.before.before.before.before.before in omega (arith, w.loop-e-test.true)
 
-loop-again : tie.Need-loop-preserved invariant-loop decreases-loop
+loop-again : tie.Need-loop-e-preserved invariant-loop decreases-loop
 loop-again c =
     let k = c.before.before in
     let w = k.before.before.before in
@@ -90,14 +90,14 @@ loop-again c =
     let h = head w in (
       behind w,
       omega (arith, within w),
-      k.mark-level.auto.1.1.1.1.1.0 ∙ h.loop.inv.2,
-      level_marked (m w) (n w) (key (m w) (l w)) s.pre.0.keys.rising (e w) (row_offset s.args.t (l w) (e w) (get_or s.args.starts.now (e w) 0)) h.loop.edges k.mark-level.new.1.1.1.1.1.0 (within w)
-          (row_offset_lem (m w) s.args.t (n w) (l w) s.args.starts.now s.pre.0.keys s.args.top s.pre.1 (e w) (behind w) (within w))
-          (h.loop.inv.3 ∙ ap (from (m w) (n w) (key (m w) (l w))) (sym (next w))) k.mark-level.ensures,
+      k.mark_level.auto.edges ∙ h.loop-e.invariant.2,
+      level_marked (m w) (n w) (key (m w) (l w)) s.requires.0.keys.rising (e w) (row_offset s.args.t (l w) (e w) (get_or s.args.starts.now (e w) 0)) h.loop-e.edges k.mark_level.new.edges (within w)
+          (row_offset_lem (m w) s.args.t (n w) (l w) s.args.starts.now s.requires.0.keys s.args.top s.requires.1 (e w) (behind w) (within w))
+          (h.loop-e.invariant.3 ∙ ap (from (m w) (n w) (key (m w) (l w))) (sym (next w))) k.mark_level.ensures,
     )
 
-same_length : tie.Need-same-length invariant-loop decreases-loop
-same_length c = c.before.loop.invariant.2
+same_length : tie.Need-shape_of-edges invariant-loop decreases-loop
+same_length c = c.before.loop-e.invariant.2
 
 returns : tie.Need-returns invariant-loop decreases-loop
 returns c =
@@ -105,11 +105,11 @@ returns c =
     let s = h.before.before.before.before.before in
     let m = s.args.m in
     let f = key m s.args.batch.now in
-    let z : h.loop.e ≡ s.args.top = omega (arith, c.loop-test.false, h.loop.invariant.0) in
-    h.loop.invariant.3 ∙ ap (from m s.args.n f) z ∙ ap pack_bits (from_is s.args.top m f (set_below f s.args.n) s.requires.1.most)
+    let z : h.loop-e.e ≡ s.args.top = omega (arith, c.loop-e-test.false, h.loop-e.invariant.0) in
+    h.loop-e.invariant.3 ∙ ap (from m s.args.n f) z ∙ ap pack_bits (from_is s.args.top m f (set_below f s.args.n) s.requires.1.most)
 
-pub mark-levels-spec : {M : Type 1} → statement M
-mark-levels-spec =
+pub mark_levels_spec : {M : Type 1} → statement M
+mark_levels_spec =
     tie.close
     (tie.spec
     invariant-loop

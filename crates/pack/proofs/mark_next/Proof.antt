@@ -9,32 +9,32 @@ use Rattle.pack.proofs.mark_next.Tie as tie
 some : (s : tie.Start) (k : ℕ) → s.args.i + k ≤ s.args.n → Row s.args.t (s.args.i + k) s.args.e s.args.first.0 s.args.batch.now s.args.edges.now
 some s k h = fewer s.args.t s.args.n (s.args.i + k) s.args.e s.args.first.0 s.args.batch.now s.args.edges.now s.requires.0 h
 
-add-record : tie.Need-overflow-add-record
+add-record : tie.Need-overflow_add-record
 add-record c = search rules
 
-sub-if2 : tie.Need-overflow-sub-if2
+sub-if2 : tie.Need-overflow_sub-n
 sub-if2 c = search rules
 
-mark-four-requires : tie.Need-mark-four-requires
-mark-four-requires c κs = let s = c.before.before.before.before.before.before.before in (some s 4 (omega (arith, c.before.if2.true, s.requires.2)), s.requires.1, c.before.before.if1.true)
+mark-four-requires : tie.Need-mark_four-requires
+mark-four-requires c κs = let s = c.before.before.before.before.before.before.before in (some s 4 (omega (arith, c.before.if-n-i-ge4.true, s.requires.2)), s.requires.1, c.before.before.if-record-eq0.true)
 
-same_length : tie.Need-same-length
+same_length : tie.Need-shape_of-edges-then-n-i-ge4
 same_length c = search rules
 
-returns : tie.Need-returns
-returns c = let s = c.before.before.before.before.before.before.before.before.before.before in (omega arith, omega (arith, c.before.before.before.before.if2.true, s.requires.2), c.before.before.mark-four.ensures)
+returns : tie.Need-returns-then-n-i-ge4
+returns c = let s = c.before.before.before.before.before.before.before.before.before.before in (omega arith, omega (arith, c.before.before.before.before.if-n-i-ge4.true, s.requires.2), c.before.before.mark_four.ensures)
 
-mark-one-requires : tie.Need-mark-one-requires
+mark-one-requires : tie.Need-mark_one-requires
 mark-one-requires c κs = let s = c.before.before.before.before.before.before in (some s 1 (omega (arith, s.requires.2)), s.requires.1)
 
-same-length-2 : tie.Need-same-length-2
+same-length-2 : tie.Need-shape_of-edges
 same-length-2 c = search rules
 
-returns-2 : tie.Need-returns-2
+returns-2 : tie.Need-returns
 returns-2 c = search rules
 
-pub mark-next-spec : {M : Type 1} → statement M
-mark-next-spec =
+pub mark_next_spec : {M : Type 1} → statement M
+mark_next_spec =
     tie.close
     (tie.spec
     add-record

@@ -8,5 +8,5 @@ returns : tie.Need-returns
 unfolding tabulate
 returns c = computed (λ k. 2 ^ (7 - k)) 8
 
-pub masks-spec : {M : Type 1} → statement M
-masks-spec = tie.close (tie.spec returns)
+pub masks_spec : {M : Type 1} → statement M
+masks_spec = tie.close (tie.spec returns)

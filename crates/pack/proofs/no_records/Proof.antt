@@ -6,5 +6,5 @@ use Rattle.pack.proofs.no_records.Tie as tie
 returns : tie.Need-returns
 returns c = record { long = length-replicate {A = ℕ} 256 0; zero = λ e h. get_or-replicate 256 e 0 0 h }
 
-pub no-records-spec : {M : Type 1} → statement M
-no-records-spec = tie.close (tie.spec returns)
+pub no_records_spec : {M : Type 1} → statement M
+no_records_spec = tie.close (tie.spec returns)

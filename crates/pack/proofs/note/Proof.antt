@@ -4,29 +4,29 @@ use borrow.Author.Rules.{rules}
 use Rattle.pack.proofs.note.Statement.{statement}
 use Rattle.pack.proofs.note.Tie as tie
 
-mul-counts : tie.Need-overflow-mul-counts
+mul-counts : tie.Need-offset_bounds-counts-from
 mul-counts c = search rules
 
-slice-read-counts : tie.Need-slice-read-counts
+slice-read-counts : tie.Need-bounds-counts-from
 slice-read-counts c = search rules
 
-add-counts : tie.Need-overflow-add-counts
-add-counts c = let s = c.before.before in omega (arith, s.requires.1 s.args.from c.before.if1.true)
+add-counts : tie.Need-overflow_add-counts
+add-counts c = let s = c.before.before in omega (arith, s.requires.1 s.args.from c.before.if-from-m.true)
 
-slice-write-counts : tie.Need-slice-write-counts
+slice-write-counts : tie.Need-bounds-counts-from-then-from-m
 slice-write-counts c = search rules
 
-same_length : tie.Need-same-length
+same_length : tie.Need-shape_of-counts
 same_length c = search rules
 
-returns : tie.Need-returns
-returns c = let s = c.before.before in noted s.args.counts.now s.args.from s.args.m c.before.if1.true s.requires.0
+returns : tie.Need-returns-then-from-m
+returns c = let s = c.before.before in noted s.args.counts.now s.args.from s.args.m c.before.if-from-m.true s.requires.0
 
-returns-2 : tie.Need-returns-2
-returns-2 c = let s = c.before in not_noted s.args.counts.now s.args.from s.args.m c.if1.false
+returns-2 : tie.Need-returns-else-from-m
+returns-2 c = let s = c.before in not_noted s.args.counts.now s.args.from s.args.m c.if-from-m.false
 
-pub note-spec : {M : Type 1} → statement M
-note-spec =
+pub note_spec : {M : Type 1} → statement M
+note_spec =
     tie.close
     (tie.spec
     mul-counts

@@ -8,51 +8,51 @@ use Rattle.pack.proofs.Calls.{pack_refused}
 use Rattle.pack.proofs.pack.Statement.{statement}
 use Rattle.pack.proofs.pack.Tie as tie
 
-abbrev start : tie.After-plan → tie.Start
+abbrev start : tie.After-plan-planned → tie.Start
 start p = p.before.before.before.before.before
 
-no-records-requires : tie.Need-no-records-requires
+no-records-requires : tie.Need-no_records-levels-requires
 no-records-requires c κs = search rules
 
-slice-aggregate-plan : tie.Need-slice-aggregate-plan
+slice-aggregate-plan : tie.Need-slice_bounds-plan-end
 slice-aggregate-plan c = search rules
 
-plan-requires : tie.Need-plan-requires
+plan-requires : tie.Need-plan-planned-requires
 plan-requires c κs = search rules
 
-enum-known-planned : tie.Need-enum-known-planned
+enum-known-planned : tie.Need-enum_known-planned
 enum-known-planned c = search rules
 
-enum-known-planned-2 : tie.Need-enum-known-planned-2
+enum-known-planned-2 : tie.Need-enum_known-planned-in-Accepted-1
 enum-known-planned-2 c = search rules
 
-slice-aggregate-write-planned : tie.Need-slice-aggregate-write-planned
+slice-aggregate-write-planned : tie.Need-slice_bounds-write_planned-end
 slice-aggregate-write-planned c = search rules
 
-write-planned-requires : tie.Need-write-planned-requires
+write-planned-requires : tie.Need-write_planned-requires
 write-planned-requires c κs =
     let k = c.before.before in
-    let p = k.before.before.before.before in
+    let p = k.before.before in
     let s = start p in
-    let h = subst (Planned s.args.m s.args.batch.now p.plan.new.1.1.0) k.before.planned2.given.1 p.plan.ensures in
-    (h.0, h.1, p.plan.auto.1.1.0 ∙ p.before.before.no-records.ensures.long)
+    let h = subst (Planned s.args.m s.args.batch.now p.plan-planned.new.levels) k.in-Accepted.is p.plan-planned.ensures in
+    (h.0, h.1, p.plan-planned.auto.levels ∙ p.no_records-levels.ensures.long)
 
-returns : tie.Need-returns
+returns : tie.Need-returns-in-Refused
 unfolding written_outcome refusal pack_call
 returns c =
-    let p = c.before.before.before.before in
+    let p = c.before.before in
     let s = start p in
-    ap (λ x. x.outcome) (sym (pack_refused s.args.m s.args.batch.now s.args.out.now c.before.planned.given.0.0
-    (subst (Planned s.args.m s.args.batch.now p.plan.new.1.1.0) c.before.planned.given.1 p.plan.ensures)))
+    ap (λ x. x.outcome) (sym (pack_refused s.args.m s.args.batch.now s.args.out.now c.in-Refused.k
+    (subst (Planned s.args.m s.args.batch.now p.plan-planned.new.levels) c.in-Refused.is p.plan-planned.ensures)))
 
-same_length : tie.Need-same-length
+same_length : tie.Need-shape_of-out
 same_length c = search rules
 
-returns-2 : tie.Need-returns-2
+returns-2 : tie.Need-returns-in-Accepted
 returns-2 c = search rules
 
-pub pack-spec : {M : Type 1} → statement M
-pack-spec =
+pub pack_spec : {M : Type 1} → statement M
+pack_spec =
     tie.close
     (tie.spec
     no-records-requires

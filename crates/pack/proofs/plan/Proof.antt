@@ -19,7 +19,7 @@ use Rattle.pack.proofs.plan.Statement.{statement}
 use Rattle.pack.proofs.plan.Tie as tie
 
 -- the width is right
-module _ (c : tie.After-bytes-for) where
+module _ (c : tie.After-bytes_for-t) where
   abbrev start : tie.Start
   start = c.before.before.before.before.before
 
@@ -30,63 +30,63 @@ module _ (c : tie.After-bytes-for) where
   l = start.args.batch.now
 
   positive : 0 < m
-  positive = omega (arith, c.before.before.if1.false)
+  positive = omega (arith, c.before.before.if-m-eq0.false)
 
   narrow : m ≤ max_width
-  narrow = c.before.if2.false
+  narrow = c.before.if-m-gt-MAX_WIDTH.false
 
   abbrev size : ℕ
-  size = c.bytes-for.result
+  size = c.bytes_for-t.result
 
   t-is : size ≡ key_bytes m
   unfolding key_bytes
-  t-is = c.bytes-for.ensures.0
+  t-is = c.bytes_for-t.ensures.0
 
   t-positive : 0 < size
   unfolding key_bytes started
   t-positive = omega (arith, t-is, positive)
 
-even : (c : tie.Else3) → length (l c.before) % key_bytes (m c.before) ≡ 0
-even c = subst (λ t. length (l c.before) % t ≡ 0) (t-is c.before) c.if3.false
+even : (c : tie.Else-batch-t-ne0) → length (l c.before) % key_bytes (m c.before) ≡ 0
+even c = subst (λ t. length (l c.before) % t ≡ 0) (t-is c.before) c.if-batch-t-ne0.false
 
 -- the records are counted, no key is refused
-module _ (t : tie.After-enum-told) where
-  abbrev counting : tie.After-count-records
+module _ (t : tie.In_default) where
+  abbrev counting : tie.After-count_records-counted
   counting = t.before.before.before.before
 
-  abbrev else3 : tie.Else3
+  abbrev else3 : tie.Else-batch-t-ne0
   else3 = counting.before.before
 
-  abbrev sized : tie.After-bytes-for
+  abbrev sized : tie.After-bytes_for-t
   sized = else3.before
 
   abbrev counts : List ℕ
-  counts = running counting.count-records.last.1.1.1.1.0 (m sized)
+  counts = running counting.count_records-counted.new.counts (m sized)
 
-  told : RecordsCounted (m sized) (keys (m sized) (l sized)) (l sized) counts (Accepted t.enum_told.given.0.0)
+  told : RecordsCounted (m sized) (keys (m sized) (l sized)) (l sized) counts (Accepted t.enum_told-1.given.0.0)
   told =
-      subst (λ n. RecordsCounted (m sized) n (l sized) counts (Accepted t.enum_told.given.0.0)) (ap (λ n. length (l sized) / n) (t-is sized))
-      (subst (RecordsCounted (m sized) (length (l sized) / size sized) (l sized) counts) t.enum_told.given.1 counting.count-records.ensures)
+      subst (λ n. RecordsCounted (m sized) n (l sized) counts (Accepted t.enum_told-1.given.0.0)) (ap (λ n. length (l sized) / n) (t-is sized))
+      (subst (RecordsCounted (m sized) (length (l sized) / size sized) (l sized) counts) t.enum_told-1.given.1 counting.count_records-counted.ensures)
 
-returns : tie.Need-returns
-returns c = let s = c.before.before.before in bad_width_lem s.args.m s.args.batch.now (inl c.if1.true)
+returns : tie.Need-returns-then-m-eq0
+returns c = let s = c.before.before.before in bad_width_lem s.args.m s.args.batch.now (inl c.if-m-eq0.true)
 
-returns-2 : tie.Need-returns-2
-returns-2 c = let s = c.before.before.before.before in bad_width_lem s.args.m s.args.batch.now (inr c.if2.true)
+returns-2 : tie.Need-returns-then-m-gt-MAX_WIDTH
+returns-2 c = let s = c.before.before.before.before in bad_width_lem s.args.m s.args.batch.now (inr c.if-m-gt-MAX_WIDTH.true)
 
-bytes-for-requires : tie.Need-bytes-for-requires
+bytes-for-requires : tie.Need-bytes_for-t-requires
 bytes-for-requires c κs = search rules
 
-rem-if3 : tie.Need-nonzero-rem-if3
+rem-if3 : tie.Need-nonzero_rem-batch
 rem-if3 c = let z = t-positive c in search rules
 
-returns-3 : tie.Need-returns-3
-returns-3 c = let d = c.before in ragged (m d) (l d) (positive d) (narrow d) (subst (λ t. length (l d) % t ≡ 0 → ⊥) (t-is d) c.if3.true)
+returns-3 : tie.Need-returns-then-batch-t-ne0
+returns-3 c = let d = c.before in ragged (m d) (l d) (positive d) (narrow d) (subst (λ t. length (l d) % t ≡ 0 → ⊥) (t-is d) c.if-batch-t-ne0.true)
 
-div-count-records : tie.Need-nonzero-div-count-records
+div-count-records : tie.Need-nonzero_div-batch
 div-count-records c = let z = t-positive c.before in search rules
 
-count-records-requires : tie.Need-count-records-requires
+count-records-requires : tie.Need-count_records-counted-requires
 count-records-requires c κs =
     let e = c.before in
     let d = e.before in
@@ -96,57 +96,57 @@ count-records-requires c κs =
       zero = λ x h. (start d).requires.zero x (omega (arith, narrow d));
     }
 
-enum-known-counted : tie.Need-enum-known-counted
+enum-known-counted : tie.Need-enum_known-counted
 enum-known-counted c = search rules
 
-same_length : tie.Need-same-length
+same_length : tie.Need-shape_of-levels-in-Refused
 same_length c = search rules
 
-returns-4 : tie.Need-returns-4
+returns-4 : tie.Need-returns-in-Refused
 returns-4 c =
-    let k = c.before.before.before.before.before in
+    let k = c.before.before.before in
     let e = k.before.before in
     let d = e.before in
-    key_refused (m d) (l d) (positive d) (narrow d) (even e) c.before.counted.given.0.0
-    (subst (λ t. first_of (tests_below (m d) (l d) (length (l d) / t)) ≡ some c.before.counted.given.0.0) (t-is d)
-    (subst (RecordsCounted (m d) (length (l d) / size d) (l d) (running k.count-records.new.1.1.1.1.0 (m d))) c.before.counted.given.1 k.count-records.ensures))
+    key_refused (m d) (l d) (positive d) (narrow d) (even e) c.in-Refused.k
+    (subst (λ t. first_of (tests_below (m d) (l d) (length (l d) / t)) ≡ some c.in-Refused.k) (t-is d)
+    (subst (RecordsCounted (m d) (length (l d) / size d) (l d) (running k.count_records-counted.new.counts (m d))) c.in-Refused.is k.count_records-counted.ensures))
 
-enum_told : tie.Need-enum-told
+enum_told : tie.Need-enum_told-1
 enum_told c = search rules
 
-level-starts-requires : tie.Need-level-starts-requires
+level-starts-requires : tie.Need-level_starts-records-requires
 level-starts-requires c κs =
     let t = c.before in
     let d = sized t in (
-      omega (arith, (start d).pre.long, narrow d, (counting t).count-records.auto.1.1.1.1.0),
-      λ e h. omega (arith, (start d).good, few_records (m d) (l d) (positive d) (narrow d) (even (else3 t)) (counts t) t.enum_told.given.0.0 (told t) e h),
+      omega (arith, (start d).requires.long, narrow d, (counting t).count_records-counted.auto.counts),
+      λ e h. omega (arith, (start d).good, few_records (m d) (l d) (positive d) (narrow d) (even (else3 t)) (counts t) t.in_default.field-0 (told t) e h),
     )
 
-same-length-2 : tie.Need-same-length-2
+same-length-2 : tie.Need-shape_of-levels-then-records-gt-MAX_RECORDS
 same-length-2 c = search rules
 
-returns-5 : tie.Need-returns-5
+returns-5 : tie.Need-returns-then-records-gt-MAX_RECORDS
 returns-5 c =
     let v = c.before.before.before in
     let t = v.before.before in
     let d = sized t in
-    plan_over (m d) (l d) (positive d) (narrow d) (even (else3 t)) (counts t) t.enum_told.given.0.0 (told t) v.level-starts.new.0 v.level-starts.result v.level-starts.ensures c.if4.true
+    plan_over (m d) (l d) (positive d) (narrow d) (even (else3 t)) (counts t) t.in_default.field-0 (told t) v.level_starts-records.new.levels v.level_starts-records.result v.level_starts-records.ensures c.if-records-gt-MAX_RECORDS.true
 
-mul-t10 : tie.Need-overflow-mul-t10
+mul-t10 : tie.Need-overflow_mul-result
 mul-t10 c = search rules
 
-same-length-3 : tie.Need-same-length-3
+same-length-3 : tie.Need-shape_of-levels
 same-length-3 c = search rules
 
-returns-6 : tie.Need-returns-6
+returns-6 : tie.Need-returns
 returns-6 c =
     let v = c.before.before.before in
     let t = v.before.before in
     let d = sized t in
-    plan_ready (m d) (l d) (positive d) (narrow d) (even (else3 t)) (counts t) t.enum_told.given.0.0 (told t) v.level-starts.new.0 v.level-starts.result v.level-starts.ensures c.if4.false
+    plan_ready (m d) (l d) (positive d) (narrow d) (even (else3 t)) (counts t) t.in_default.field-0 (told t) v.level_starts-records.new.levels v.level_starts-records.result v.level_starts-records.ensures c.if-records-gt-MAX_RECORDS.false
 
-pub plan-spec : {M : Type 1} → statement M
-plan-spec =
+pub plan_spec : {M : Type 1} → statement M
+plan_spec =
     tie.close
     (tie.spec
     returns

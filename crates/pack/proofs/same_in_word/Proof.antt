@@ -11,14 +11,14 @@ use borrow.Author.Rules.{rules}
 use Rattle.pack.proofs.same_in_word.Statement.{statement}
 use Rattle.pack.proofs.same_in_word.Tie as tie
 
-word-requires : tie.Need-word-requires
+word-requires : tie.Need-word-p-requires
 word-requires c κs = search rules
 
-word-requires-2 : tie.Need-word-requires-2
+word-requires-2 : tie.Need-word-q-requires
 word-requires-2 c κs = search rules
 
-cast-result : tie.Need-overflow-cast-result
-cast-result c = omega (arith, trailing_le 64 (bit_xor c.before.word.result c.word2.result))
+cast-result : tie.Need-overflow_cast-result
+cast-result c = omega (arith, trailing_le 64 (bit_xor c.before.word-p.result c.word-q.result))
 
 returns : tie.Need-returns
 returns c =
@@ -26,8 +26,8 @@ returns c =
     let a = k.before.before.args in
     let x = a.x.now in
     let y = a.y.now in
-    subst (λ z. SameBytes (drop a.at x) (drop a.at y) 8 (count_trailing_zeros 64 z / 8)) (sym (ap₂ bit_xor c.before.word.ensures c.word2.ensures))
-    (word_same (drop a.at x) (drop a.at y) 8 (small_from x a.at (λ i. (k.before.shared-slice-known.given i).fits)) (small_from y a.at (λ i. (k.shared-slice-known2.given i).fits)))
+    subst (λ z. SameBytes (drop a.at x) (drop a.at y) 8 (count_trailing_zeros 64 z / 8)) (sym (ap₂ bit_xor c.before.word-p.ensures c.word-q.ensures))
+    (word_same (drop a.at x) (drop a.at y) 8 (small_from x a.at (λ i. (k.before.shared_slice_known-1.given i).fits)) (small_from y a.at (λ i. (k.shared_slice_known-2-1.given i).fits)))
 
-pub same-in-word-spec : {M : Type 1} → statement M
-same-in-word-spec = tie.close (tie.spec word-requires word-requires-2 cast-result returns)
+pub same_in_word_spec : {M : Type 1} → statement M
+same_in_word_spec = tie.close (tie.spec word-requires word-requires-2 cast-result returns)

@@ -6,57 +6,57 @@ use Rattle.pack.proofs.Agreeing.{same_behind, same_eight}
 use Rattle.pack.proofs.same_words.Statement.{statement}
 use Rattle.pack.proofs.same_words.Tie as tie
 
-abbrev invariant-loop : tie.invariant-loop
+abbrev invariant-loop : tie.invariant-loop-j
 invariant-loop x y t j₀ j = (j ≤ t) × ((i : ℕ) → i < j → get_or x i 0 ≡ get_or y i 0)
 
-abbrev decreases-loop : tie.decreases-loop
+abbrev decreases-loop : tie.decreases-loop-j
 decreases-loop x y t j₀ j = t - j
 
-abbrev start : tie.At-loop invariant-loop decreases-loop → tie.Start invariant-loop decreases-loop
+abbrev start : tie.At-loop-j invariant-loop decreases-loop → tie.Start invariant-loop decreases-loop
 start h = h.before.before.before
 
-loop-holds : tie.Need-loop-init invariant-loop decreases-loop
+loop-holds : tie.Need-loop-j-init invariant-loop decreases-loop
 loop-holds c = (omega arith, λ i l. absurd (omega arith))
 
-sub-loop : tie.Need-overflow-sub-loop invariant-loop decreases-loop
-sub-loop c = c.loop.invariant.0
+sub-loop : tie.Need-overflow_sub-t invariant-loop decreases-loop
+sub-loop c = c.loop-j.invariant.0
 
-same-in-word-requires : tie.Need-same-in-word-requires invariant-loop decreases-loop
+same-in-word-requires : tie.Need-same_in_word-k-requires invariant-loop decreases-loop
 same-in-word-requires c κs =
     let h = c.before in
-    (omega (arith, c.loop-test.true, h.loop.invariant.0, (start h).requires.0), omega (arith, c.loop-test.true, h.loop.invariant.0, (start h).requires.1))
+    (omega (arith, c.loop-j-test.true, h.loop-j.invariant.0, (start h).requires.0), omega (arith, c.loop-j-test.true, h.loop-j.invariant.0, (start h).requires.1))
 
-add-result : tie.Need-overflow-add-result invariant-loop decreases-loop
-add-result c = let h = c.before.before.before in omega (arith, c.if1.true, h.loop.invariant.0, (start h).requires.0, (start h).well-formed)
+add-result : tie.Need-overflow_add-result invariant-loop decreases-loop
+add-result c = let h = c.before.before.before in omega (arith, c.if-k-lt8.true, h.loop-j.invariant.0, (start h).requires.0, (start h).well-formed)
 
-returns : tie.Need-returns invariant-loop decreases-loop
+returns : tie.Need-returns-then-k-lt8 invariant-loop decreases-loop
 returns c =
     let w = c.before.before in
     let h = w.before in
     let a = (start h).args in
-    same_behind a.x.now a.y.now a.t h.loop.j c.before.same-in-word.result (omega (arith, w.loop-test.true, h.loop.invariant.0)) c.if1.true h.loop.invariant.1 c.before.same-in-word.ensures
+    same_behind a.x.now a.y.now a.t h.loop-j.j c.before.same_in_word-k.result (omega (arith, w.loop-j-test.true, h.loop-j.invariant.0)) c.if-k-lt8.true h.loop-j.invariant.1 c.before.same_in_word-k.ensures
 
-add-j : tie.Need-overflow-add-j invariant-loop decreases-loop
-add-j c = let h = c.before.before.before in omega (arith, c.before.before.loop-test.true, h.loop.invariant.0, (start h).requires.0, (start h).well-formed)
+add-j : tie.Need-overflow_add-j invariant-loop decreases-loop
+add-j c = let h = c.before.before.before in omega (arith, c.before.before.loop-j-test.true, h.loop-j.invariant.0, (start h).requires.0, (start h).well-formed)
 
-loop-less : tie.Need-loop-smaller invariant-loop decreases-loop
-loop-less c = omega (arith, c.before.before.loop-test.true)
+loop-less : tie.Need-loop-j-smaller invariant-loop decreases-loop
+loop-less c = omega (arith, c.before.before.loop-j-test.true)
 
-loop-again : tie.Need-loop-preserved invariant-loop decreases-loop
+loop-again : tie.Need-loop-j-preserved invariant-loop decreases-loop
 loop-again c =
     let w = c.before.before in
     let h = w.before in
     let a = (start h).args in
-    (omega (arith, w.loop-test.true, h.loop.invariant.0), same_eight a.x.now a.y.now h.loop.j c.before.same-in-word.result c.if1.false h.loop.invariant.1 c.before.same-in-word.ensures)
+    (omega (arith, w.loop-j-test.true, h.loop-j.invariant.0), same_eight a.x.now a.y.now h.loop-j.j c.before.same_in_word-k.result c.if-k-lt8.false h.loop-j.invariant.1 c.before.same_in_word-k.ensures)
 
-same-from-requires : tie.Need-same-from-requires invariant-loop decreases-loop
-same-from-requires c κs = let h = c.before in ((start h).requires.0, (start h).requires.1, h.loop.invariant.0, h.loop.invariant.1)
+same-from-requires : tie.Need-same_from-requires invariant-loop decreases-loop
+same-from-requires c κs = let h = c.before in ((start h).requires.0, (start h).requires.1, h.loop-j.invariant.0, h.loop-j.invariant.1)
 
-returns-2 : tie.Need-returns-2 invariant-loop decreases-loop
+returns-2 : tie.Need-returns invariant-loop decreases-loop
 returns-2 c = c.same_from.ensures
 
-pub same-words-spec : {M : Type 1} → statement M
-same-words-spec =
+pub same_words_spec : {M : Type 1} → statement M
+same_words_spec =
     tie.close
     (tie.spec
     invariant-loop

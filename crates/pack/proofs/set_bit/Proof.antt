@@ -8,16 +8,16 @@ use Rattle.pack.proofs.SetBits.{set_or}
 use Rattle.pack.proofs.set_bit.Statement.{statement}
 use Rattle.pack.proofs.set_bit.Tie as tie
 
-slice-read-x : tie.Need-slice-read-x
+slice-read-x : tie.Need-bounds-b-at
 slice-read-x c = search rules
 
-shared-slice-read-b : tie.Need-shared-slice-read-b
+shared-slice-read-b : tie.Need-bounds-masks-n
 shared-slice-read-b c = search rules
 
-slice-write-b : tie.Need-slice-write-b
+slice-write-b : tie.Need-bounds-b-at-2
 slice-write-b c = search rules
 
-same_length : tie.Need-same-length
+same_length : tie.Need-shape_of-b
 same_length c = search rules
 
 returns : tie.Need-returns
@@ -27,6 +27,6 @@ returns c =
     let o = s.args.o.0 in
     ap (λ x. set b (o / 8) (bit_or (get_or b (o / 8) 0) x)) (s.requires.1.rule (o % 8) (omega arith)) ∙ set_or b o
 
-pub set-bit-spec : {M : Type 1} → statement M
-set-bit-spec =
+pub set_bit_spec : {M : Type 1} → statement M
+set_bit_spec =
     tie.close (tie.spec slice-read-x shared-slice-read-b slice-write-b same_length returns)

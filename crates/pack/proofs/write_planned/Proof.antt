@@ -37,58 +37,58 @@ module _ (s : tie.Start) where
   e = batch_entry m l
 
   small : (m ≤ max_width) × (b ≤ max_edges)
-  small = batch_small m b l s.pre.0.accepted s.pre.1
+  small = batch_small m b l s.requires.0.accepted s.requires.1
 
   sealed : HoldsOnly m b (pack_bits (edges_of e))
-  sealed = batch_sealed m b l s.pre.0.accepted s.pre.1
+  sealed = batch_sealed m b l s.requires.0.accepted s.requires.1
 
   same : entry_held m b (pack_bits (edges_of e)) ≡ e
-  same = batch_held m b l s.pre.0.accepted s.pre.1
+  same = batch_held m b l s.requires.0.accepted s.requires.1
 
   long : length (encode e) ≡ end_of m b
-  long = batch_length m b l s.pre.0.accepted s.pre.1
+  long = batch_length m b l s.requires.0.accepted s.requires.1
 
 -- the encoding fits
-module _ (c : tie.Else1) where
+module _ (c : tie.Else-too_short) where
   abbrev start : tie.Start
   start = c.before.before.before.before.before
 
   room : end_of (m start) (b start) ≤ length (xs start)
-  room = ltb-false (length (xs start)) (end_of (m start) (b start)) (sym c.before.too_short.ensures ∙ c.if1.false)
+  room = ltb-false (length (xs start)) (end_of (m start) (b start)) (sym c.before.too_short.ensures ∙ c.if-too_short.false)
 
 -- where the edges go
-module _ (w : tie.After-bytes-for) where
-  abbrev fits : tie.Else1
+module _ (w : tie.After-bytes_for) where
+  abbrev fits : tie.Else-too_short
   fits = w.before.before
 
   abbrev s : tie.Start
   s = start fits
 
   abbrev at : ℕ
-  at = w.before.edges-start.result
+  at = w.before.edges_start-at.result
 
   abbrev end : ℕ
-  end = at + w.bytes-for.result
+  end = at + w.bytes_for.result
 
   abbrev n : ℕ
   n = end - at
 
   size : n ≡ edge_bytes (b s)
-  size = omega (arith, w.bytes-for.ensures.0)
+  size = omega (arith, w.bytes_for.ensures.0)
 
   place : at ≡ body_at (start4 (m s))
-  place = w.before.edges-start.ensures
+  place = w.before.edges_start-at.ensures
 
   edges_fit : end ≤ length (xs s)
-  edges_fit = omega (arith, place, w.bytes-for.ensures.0, edges_end (m s) (b s), room fits)
+  edges_fit = omega (arith, place, w.bytes_for.ensures.0, edges_end (m s) (b s), room fits)
 
 -- the edges are in their place
 module _ (k : tie.After-fill) where
-  abbrev placed : tie.After-bytes-for
+  abbrev placed : tie.After-bytes_for
   placed = k.before.before.before
 
   abbrev ys : Bytes
-  ys = k.fill.last.1.1.1.0
+  ys = k.fill.new.edges
 
   abbrev zs : Bytes
   zs = put_mid (at placed) (n placed) (xs (s placed)) ys
@@ -99,31 +99,31 @@ module _ (k : tie.After-fill) where
   edges-there : standing (m (s placed)) (b (s placed)) zs ≡ pack_bits (edges_of (e (s placed)))
   edges-there = stands (m (s placed)) (b (s placed)) (at placed) (n placed) (xs (s placed)) ys (place placed) (size placed) long-edges (room (fits placed)) ∙ k.fill.ensures
 
-too-short-requires : tie.Need-too-short-requires
+too-short-requires : tie.Need-too_short-requires
 too-short-requires c κs = small c.before.before.before
 
-returns : tie.Need-returns
+returns : tie.Need-returns-then-too_short
 unfolding written_outcome refusal
 returns c =
     let s = c.before.before.before.before.before in
-    sym (call_short (m s) (b s) (l s) s.requires.0.accepted s.requires.1 (xs s) (ltb-true (length (xs s)) (end_of (m s) (b s)) (sym c.before.too_short.ensures ∙ c.if1.true)))
+    sym (call_short (m s) (b s) (l s) s.requires.0.accepted s.requires.1 (xs s) (ltb-true (length (xs s)) (end_of (m s) (b s)) (sym c.before.too_short.ensures ∙ c.if-too_short.true)))
 
-edges-start-requires : tie.Need-edges-start-requires
+edges-start-requires : tie.Need-edges_start-at-requires
 edges-start-requires c κs = (small (start c)).0
 
-bytes-for-requires : tie.Need-bytes-for-requires
+bytes-for-requires : tie.Need-bytes_for-requires
 bytes-for-requires c κs = (small (start c.before)).1
 
-add-end : tie.Need-overflow-add-end
+add-end : tie.Need-overflow_add-end
 add-end c = omega (arith, edges_fit c)
 
-sub-fill : tie.Need-overflow-sub-fill
+sub-fill : tie.Need-slice_bounds-fill-count
 sub-fill c = search rules
 
-part-fill-start : tie.Need-slice-bounds-fill-start
+part-fill-start : tie.Need-slice_bounds-fill-start
 part-fill-start c = search rules
 
-part-fill-end : tie.Need-slice-bounds-fill-end
+part-fill-end : tie.Need-slice_bounds-fill-end
 part-fill-end c = let f = edges_fit c.before in search rules
 
 fill-requires : tie.Need-fill-requires
@@ -135,34 +135,34 @@ fill-requires c κs =
       room = rw (← (s w).requires.1) (mid_len (at w) (end w) (xs (s w)) (edges_fit w) ∙ size w);
     }
 
-tallies-requires : tie.Need-tallies-requires
+tallies-requires : tie.Need-tallies-t-requires
 tallies-requires c κs = search rules
 
-slice-aggregate-write-around-edges : tie.Need-slice-aggregate-write-around-edges
+slice-aggregate-write-around-edges : tie.Need-slice_bounds-write_around_edges-end
 slice-aggregate-write-around-edges c = search rules
 
-write-around-edges-requires : tie.Need-write-around-edges-requires
+write-around-edges-requires : tie.Need-write_around_edges-requires
 write-around-edges-requires c κs =
     let k = c.before.before.before.before.before.before.before in
     let w = placed k in
     let s = s w in (
       omega (arith, length_put (m s) (b s) (at w) (n w) (xs s) (ys k) (place w) (size w) (long-edges k) (room (fits w)), room (fits w)),
       rw (edges-there k) (sealed s),
-      c.before.before.tallies.ensures,
+      c.before.before.tallies-t.ensures,
     )
 
-length-of-requires : tie.Need-length-of-requires
+length-of-requires : tie.Need-length_of-requires
 length-of-requires c κs =
     let k = c.before.before.before.before.before.before.before.before.before.before in
     small (s (placed k))
 
-same_length : tie.Need-same-length
+same_length : tie.Need-shape_of-levels
 same_length c = search rules
 
-same-length-2 : tie.Need-same-length-2
+same-length-2 : tie.Need-shape_of-out
 same-length-2 c = search rules
 
-returns-2 : tie.Need-returns-2
+returns-2 : tie.Need-returns
 unfolding written_outcome
 returns-2 c =
     let a = c.before.before.before in
@@ -170,13 +170,13 @@ returns-2 c =
     let w = placed k in
     let s = s w in
     let r = room (fits w) in
-    let done = a.write-around-edges.ensures ∙ ap (λ x. front (encode (entry_held (m s) (b s) x)) (zs k)) (edges-there k) ∙ ap (λ x. front (encode x) (zs k)) (same s)
+    let done = a.write_around_edges.ensures ∙ ap (λ x. front (encode (entry_held (m s) (b s) x)) (zs k)) (edges-there k) ∙ ap (λ x. front (encode x) (zs k)) (same s)
     ∙ covered (m s) (b s) (at w) (n w) (xs s) (ys k) (place w) (size w) (long-edges k) r (encode (e s)) (long s) in
-    ap₂ (λ i x. record { answer = wrote (i ∷ []); buffers = x ∷ [] }) c.length-of.ensures done
-    ∙ sym (call_fits (m s) (b s) (l s) s.pre.0.accepted s.pre.1 (xs s) r)
+    ap₂ (λ i x. record { answer = wrote (i ∷ []); buffers = x ∷ [] }) c.length_of.ensures done
+    ∙ sym (call_fits (m s) (b s) (l s) s.requires.0.accepted s.requires.1 (xs s) r)
 
-pub write-planned-spec : {M : Type 1} → statement M
-write-planned-spec =
+pub write_planned_spec : {M : Type 1} → statement M
+write_planned_spec =
     tie.close
     (tie.spec
     too-short-requires

@@ -11,62 +11,62 @@ use Rattle.prefix.proofs.carry_down.Statement.{statement}
 use Rattle.prefix.proofs.carry_down.Tie as tie
 
 -- what is left to go on with comes out where all of it does
-abbrev invariant-loop : tie.invariant-loop
+abbrev invariant-loop : tie.invariant-loop-i
 invariant-loop l t e d n₀ i₀ n i = (i ≤ e.width) × Cuts (entry_in l) i n × (carried (edges_of (entry_in l)) (e.width - i) n ≡ carried (edges_of (entry_in l)) (e.width - d) n₀)
 
-abbrev decreases-loop : tie.decreases-loop
+abbrev decreases-loop : tie.decreases-loop-i
 decreases-loop l t e d n₀ i₀ n i = e.width - i
 
-abbrev start : tie.At-loop invariant-loop decreases-loop → tie.Start invariant-loop decreases-loop
+abbrev start : tie.At-loop-i invariant-loop decreases-loop → tie.Start invariant-loop decreases-loop
 start l = l.before.before.before
 
-loop-holds : tie.Need-loop-init invariant-loop decreases-loop
+loop-holds : tie.Need-loop-i-init invariant-loop decreases-loop
 loop-holds c = let s = c.before.before in (s.requires.3, s.requires.4, refl)
 
 -- the cut is in front of an edge, or behind the last
-inside : (c : tie.Then1 invariant-loop decreases-loop) → 2 * c.before.before.loop.n ≤ (start c.before.before).args.e.bits
+inside : (c : tie.In-loop-i invariant-loop decreases-loop) → 2 * c.before.before.loop-i.n ≤ (start c.before.before).args.e.bits
 inside c =
     let l = c.before.before in
     let o = (start l).requires.0 in
-    omega (arith, cut_le _ l.loop.invariant.1 (omega (arith, c.if1.true, o.width)), o.bits)
+    omega (arith, cut_le _ l.loop-i.invariant.1 (omega (arith, c.loop-i-test.true, o.width)), o.bits)
 
-mul-t10 : tie.Need-overflow-mul-t10 invariant-loop decreases-loop
-mul-t10 c = omega (arith, inside c, (opens_room _ _ (start c.before.before).pre.0).few)
+mul-t10 : tie.Need-overflow_mul-n invariant-loop decreases-loop
+mul-t10 c = omega (arith, inside c, (opens_room _ _ (start c.before.before).requires.0).few)
 
-ones-before-requires : tie.Need-ones-before-requires invariant-loop decreases-loop
-ones-before-requires c κs = let s = start c.before.before in (s.pre.0, s.pre.1, inside c)
+ones-before-requires : tie.Need-ones_before-n-requires invariant-loop decreases-loop
+ones-before-requires c κs = let s = start c.before.before in (s.requires.0, s.requires.1, inside c)
 
-add-n : tie.Need-overflow-add-n invariant-loop decreases-loop
-add-n c = let l = c.before.before.before in omega (arith, c.ones-before.ensures, (rank_le (edges_of (entry_in (start l).args.l.now)) (2 * l.loop.n)).0, inside c.before, (opens_room _ _ (start l).requires.0).few)
+add-n : tie.Need-overflow_add-n invariant-loop decreases-loop
+add-n c = let l = c.before.before.before in omega (arith, c.ones_before-n.ensures, (rank_le (edges_of (entry_in (start l).args.l.now)) (2 * l.loop-i.n)).0, inside c.before, (opens_room _ _ (start l).requires.0).few)
 
-add-i : tie.Need-overflow-add-i invariant-loop decreases-loop
-add-i c = let l = c.before.before.before in omega (arith, c.before.if1.true, (opens_room _ _ (start l).requires.0).narrow)
+add-i : tie.Need-overflow_add-i invariant-loop decreases-loop
+add-i c = let l = c.before.before.before in omega (arith, c.before.loop-i-test.true, (opens_room _ _ (start l).requires.0).narrow)
 
-loop-less : tie.Need-loop-smaller invariant-loop decreases-loop
+loop-less : tie.Need-loop-i-smaller invariant-loop decreases-loop
 loop-less c = omega arith
 
-loop-again : tie.Need-loop-preserved invariant-loop decreases-loop
+loop-again : tie.Need-loop-i-preserved invariant-loop decreases-loop
 unfolding carried
 loop-again c =
     let l = c.before.before.before in
     let s = start l in
-    let o = s.pre.0 in
-    let t = c.before.if1.true in
-    let z : s.args.e.width - l.loop.i ≡ suc (s.args.e.width - (l.loop.i + 1)) = omega (arith, t) in (
+    let o = s.requires.0 in
+    let t = c.before.loop-i-test.true in
+    let z : s.args.e.width - l.loop-i.i ≡ suc (s.args.e.width - (l.loop-i.i + 1)) = omega (arith, t) in (
       omega (arith, t),
-      rw c.ones-before.ensures (cut_next _ l.loop.invariant.1 (omega (arith, t, o.width)) (omega (arith, s.pre.2, o.bits))),
-      rw c.ones-before.ensures (rw z at l.loop.invariant.2),
+      rw c.ones_before-n.ensures (cut_next _ l.loop-i.invariant.1 (omega (arith, t, o.width)) (omega (arith, s.requires.2, o.bits))),
+      rw c.ones_before-n.ensures (rw z at l.loop-i.invariant.2),
     )
 
 returns : tie.Need-returns invariant-loop decreases-loop
 unfolding carried
 returns c =
     let l = c.before.before in
-    let z : (start l).args.e.width - l.loop.i ≡ 0 = omega (arith, c.if1.false) in
-    rw z at l.loop.invariant.2
+    let z : (start l).args.e.width - l.loop-i.i ≡ 0 = omega (arith, c.loop-i-test.false) in
+    rw z at l.loop-i.invariant.2
 
-pub carry-down-spec : {M : Type 1} → statement M
-carry-down-spec =
+pub carry_down_spec : {M : Type 1} → statement M
+carry_down_spec =
     tie.close
     (tie.spec
     invariant-loop

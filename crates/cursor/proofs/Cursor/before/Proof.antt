@@ -10,5 +10,5 @@ returns : tie.Need-returns
 unfolding numbers
 returns c = c.of.ensures
 
-pub before-spec : {M : Type 1} → statement M
-before-spec = tie.close (tie.spec of-requires returns)
+pub before_spec : {M : Type 1} → statement M
+before_spec = tie.close (tie.spec of-requires returns)
