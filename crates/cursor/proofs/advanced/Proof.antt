@@ -24,7 +24,7 @@ same_length : tie.Need-shape_of-out
 same_length c = search rules
 
 returns : tie.Need-returns
-returns c = by_value _ _ _ _ _ _ _ _ _ (c.of.ensures ∙ ap (cursor_with _) c.before.offsets_of-offsets.ensures) c.before.before.before.before.before.before.before.before.numbers_of-path.ensures c.before.before.before.before.before.step_any-walked.ensures
+returns c = by_value _ _ _ _ _ _ _ _ _ (c.of.ensures ∙ ap (cursor_with _) c.offsets_of-offsets.ensures) c.numbers_of-path.ensures c.step_any-walked.ensures
 
 pub advanced_spec : {M : Type 1} → statement M
 advanced_spec =

@@ -12,11 +12,11 @@ zeros-from-requires c κs = search rules
 
 returns : tie.Need-returns-then-is_path
 returns c =
-    let s = c.before.before.before.before.before.before in
-    cursor_right _ _ _ _ s.requires.0.width (sym c.before.if-is_path.true ∙ c.before.before.is_path.ensures) c.zeros_from.ensures
+    let s = c in
+    cursor_right _ _ _ _ s.requires.0.width (sym c.if-is_path.true ∙ c.is_path.ensures) c.zeros_from.ensures
 
 returns-2 : tie.Need-returns
-returns-2 c = cursor_wrong _ _ (sym c.if-is_path.false ∙ c.before.is_path.ensures)
+returns-2 c = cursor_wrong _ _ (sym c.if-is_path.false ∙ c.is_path.ensures)
 
 pub at_member_spec : {M : Type 1} → statement M
 at_member_spec = tie.close (tie.spec is-path-requires zeros-from-requires returns returns-2)

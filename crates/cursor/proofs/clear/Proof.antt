@@ -29,23 +29,23 @@ add-d : tie.Need-overflow_add-d invariant-loop decreases-loop
 add-d c = omega arith
 
 loop-less : tie.Need-loop-d-smaller invariant-loop decreases-loop
-loop-less c = let l = c.before.loop-d in omega (arith, size c.before.before.args.path.now _ _ l.invariant.1)
+loop-less c = let l = c.loop-d in omega (arith, size c.args.path.now _ _ l.invariant.1)
 
 loop-again : tie.Need-loop-d-preserved invariant-loop decreases-loop
 loop-again c =
-    let l = c.before.loop-d in
-    let n = length-replicate {A = ℕ} (length c.before.before.args.path.now) 0 in
-    let z = size c.before.before.args.path.now _ _ l.invariant.1 in
-    (omega (arith, z), copied_more _ _ _ _ l.invariant.1 (omega (arith, z, n)) (sym (get_or-replicate (length c.before.before.args.path.now) l.d 0 0 (omega (arith, z)))))
+    let l = c.loop-d in
+    let n = length-replicate {A = ℕ} (length c.args.path.now) 0 in
+    let z = size c.args.path.now _ _ l.invariant.1 in
+    (omega (arith, z), copied_more _ _ _ _ l.invariant.1 (omega (arith, z, n)) (sym (get_or-replicate (length c.args.path.now) l.d 0 0 (omega (arith, z)))))
 
 same_length : tie.Need-shape_of-path invariant-loop decreases-loop
-same_length c = size c.before.before.args.path.now _ _ c.before.loop-d.invariant.1
+same_length c = size c.args.path.now _ _ c.loop-d.invariant.1
 
 returns : tie.Need-returns invariant-loop decreases-loop
 returns c =
-    let z = size c.before.before.args.path.now _ _ c.before.loop-d.invariant.1 in
-    let n = length-replicate {A = ℕ} (length c.before.before.args.path.now) 0 in
-    copied_all _ _ _ c.before.loop-d.invariant.1 (omega (arith, z, n))
+    let z = size c.args.path.now _ _ c.loop-d.invariant.1 in
+    let n = length-replicate {A = ℕ} (length c.args.path.now) 0 in
+    copied_all _ _ _ c.loop-d.invariant.1 (omega (arith, z, n))
 
 pub clear_spec : {M : Type 1} → statement M
 clear_spec =

@@ -7,13 +7,13 @@ use Rattle.cursor.proofs.is_cursor.Statement.{statement}
 use Rattle.cursor.proofs.is_cursor.Tie as tie
 
 returns : tie.Need-returns-then-path-ne-MAX_WIDTH
-returns c = let s = c.before.before.before.before in right_not _ s.args.s s.args.path.now c.if-path-ne-MAX_WIDTH.true
+returns c = let s = c in right_not _ s.args.s s.args.path.now c.if-path-ne-MAX_WIDTH.true
 
 enum_told : tie.Need-enum_told-1
 enum_told c = search rules
 
 at-member-requires : tie.Need-at_member-requires
-at-member-requires c κs = let s = c.before.before.before.before.before in (s.requires.0, s.requires.1, omega (arith, c.if-path-ne-MAX_WIDTH.false, (opens_room _ _ s.requires.0).narrow))
+at-member-requires c κs = let s = c in (s.requires.0, s.requires.1, omega (arith, c.if-path-ne-MAX_WIDTH.false, (opens_room _ _ s.requires.0).narrow))
 
 enum-told-2 : tie.Need-enum_told-in-Before
 enum-told-2 c = search rules

@@ -23,9 +23,9 @@ abbrev start : tie.At-loop-d invariant-loop decreases-loop → tie.Start invaria
 start l = l.before.before.before.before
 
 on : (c : tie.Else-not-on invariant-loop decreases-loop)
-    → leads_on (edges_of (entry_in (start c.before.before.before.before).args.l.now)) c.before.before.before.before.loop-d.r
-    (get_or (start c.before.before.before.before).args.path.now c.before.before.before.before.loop-d.d 0) ≡ true
-on c = sym c.before.leads_on-on.ensures ∙ not_false _ (ap not c.if-not-on.false)
+    → leads_on (edges_of (entry_in (start c.before.before.before.before).args.l.now)) c.loop-d.r
+    (get_or (start c.before.before.before.before).args.path.now c.loop-d.d 0) ≡ true
+on c = sym c.leads_on-on.ensures ∙ not_false _ (ap not c.if-not-on.false)
 
 loop-holds : tie.Need-loop-d-init invariant-loop decreases-loop
 loop-holds c = (omega arith, check_first _ _)
@@ -34,48 +34,48 @@ mul-o : tie.Need-offset_bounds-path-d invariant-loop decreases-loop
 mul-o c = omega (arith, (opens_room _ _ (start c.before).requires.0).narrow)
 
 shared-slice-read-o : tie.Need-bounds-path-d invariant-loop decreases-loop
-shared-slice-read-o c = omega (arith, (start c.before.before).requires.2, c.before.loop-d-test.true)
+shared-slice-read-o c = omega (arith, (start c.before.before).requires.2, c.loop-d-test.true)
 
 leads-on-requires : tie.Need-leads_on-on-requires invariant-loop decreases-loop
 leads-on-requires c κs = (start c.before.before).requires.0
 
 returns : tie.Need-returns-then-not-on invariant-loop decreases-loop
 returns c =
-    let l = c.before.before.before.before in
-    let s = start l in
-    check_fail _ _ (omega (arith, s.requires.2, s.requires.0.width)) _ _ l.loop-d.invariant.1 (omega (arith, c.before.before.before.loop-d-test.true, s.requires.0.width)) (sym c.before.leads_on-on.ensures ∙ was_false _ (ap not c.if-not-on.true))
+    let l = c in
+    let s = start l.before.before.before.before in
+    check_fail _ _ (omega (arith, s.requires.2, s.requires.0.width)) _ _ l.loop-d.invariant.1 (omega (arith, c.loop-d-test.true, s.requires.0.width)) (sym c.leads_on-on.ensures ∙ was_false _ (ap not c.if-not-on.true))
 
 ones-before-requires : tie.Need-ones_before-r-requires invariant-loop decreases-loop
 unfolding edge_count
 ones-before-requires c κs =
-    let l = c.before.before.before.before in
-    let s = start l in
+    let l = c in
+    let s = start l.before.before.before.before in
     let z = check_below _ _ _ (on c) in
     (s.requires.0, s.requires.1, omega (arith, z, s.requires.0.bits))
 
 add_r : tie.Need-overflow_add-r invariant-loop decreases-loop
 unfolding edge_count
 add_r c =
-    let l = c.before.before.before.before.before in
-    let s = start l in
+    let l = c in
+    let s = start l.before.before.before.before.before in
     let z = check_below _ _ _ (on c.before) in
     omega (arith, z, c.ones_before-r.ensures, (rank_le (edges_of (entry_in s.args.l.now)) (get_or s.args.path.now l.loop-d.d 0)).0, s.requires.0.bits, (opens_room _ _ s.requires.0).few)
 
 add-d : tie.Need-overflow_add-d invariant-loop decreases-loop
-add-d c = let l = c.before.before.before.before.before in omega (arith, (opens_room _ _ (start l).requires.0).narrow, c.before.before.before.before.loop-d-test.true)
+add-d c = let l = c in omega (arith, (opens_room _ _ (start l.before.before.before.before.before).requires.0).narrow, c.loop-d-test.true)
 
 loop-less : tie.Need-loop-d-smaller invariant-loop decreases-loop
-loop-less c = omega (arith, c.before.before.before.before.loop-d-test.true)
+loop-less c = omega (arith, c.loop-d-test.true)
 
 loop-again : tie.Need-loop-d-preserved invariant-loop decreases-loop
 loop-again c =
-    let l = c.before.before.before.before.before in
-    (omega (arith, c.before.before.before.before.loop-d-test.true), check_next _ _ _ _ _ l.loop-d.invariant.1 (on c.before) (ap (λ x. x + 1) c.ones_before-r.ensures))
+    let l = c in
+    (omega (arith, c.loop-d-test.true), check_next _ _ _ _ _ l.loop-d.invariant.1 (on c.before) (ap (λ x. x + 1) c.ones_before-r.ensures))
 
 returns-2 : tie.Need-returns invariant-loop decreases-loop
 returns-2 c =
-    let l = c.before in
-    let s = start l in
+    let l = c in
+    let s = start l.before in
     check_all _ _ (omega (arith, s.requires.2, s.requires.0.width)) _ _ l.loop-d.invariant.1 (opens_valid _ _ s.requires.0) (omega (arith, c.loop-d-test.false, l.loop-d.invariant.0, s.requires.0.width))
 
 pub is_path_spec : {M : Type 1} → statement M

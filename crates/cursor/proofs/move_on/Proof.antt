@@ -17,37 +17,37 @@ abbrev start : tie.At-loop-d invariant-loop decreases-loop → tie.Start invaria
 start l = l.before.before.before
 
 loop-holds : tie.Need-loop-d-init invariant-loop decreases-loop
-loop-holds c = let s = c.before.before in move_start _ s.args.e.bits _ _ _ s.requires.1
+loop-holds c = let s = c in move_start _ s.args.e.bits _ _ _ s.requires.1
 
 mul-q : tie.Need-offset_bounds-path-d invariant-loop decreases-loop
-mul-q c = let l = c.before in omega (arith, l.loop-d.invariant.most, (opens_room _ _ (start l).requires.0).narrow)
+mul-q c = let l = c in omega (arith, l.loop-d.invariant.most, (opens_room _ _ (start l.before).requires.0).narrow)
 
 slice-read-q : tie.Need-bounds-path-d invariant-loop decreases-loop
-slice-read-q c = let l = c.before.before in omega (arith, l.loop-d.invariant.size, (start l).requires.1.room, c.before.loop-d-test.true)
+slice-read-q c = let l = c in omega (arith, l.loop-d.invariant.size, (start l.before.before).requires.1.room, c.loop-d-test.true)
 
 next-offset-requires : tie.Need-next_offset-x-requires invariant-loop decreases-loop
-next-offset-requires c κs = let l = c.before.before in let s = start l in let t = c.before.loop-d-test.true in (s.requires.0, move_small _ _ _ _ _ s.requires.1 _ _ l.loop-d.invariant t, move_room _ _ _ _ _ s.requires.1 _ _ l.loop-d.invariant t)
+next-offset-requires c κs = let l = c in let s = start l.before.before in let t = c.loop-d-test.true in (s.requires.0, move_small _ _ _ _ _ s.requires.1 _ _ l.loop-d.invariant t, move_room _ _ _ _ _ s.requires.1 _ _ l.loop-d.invariant t)
 
 mul-path : tie.Need-offset_bounds-path-d-in-loop-d invariant-loop decreases-loop
-mul-path c = let l = c.before.before.before in omega (arith, l.loop-d.invariant.most, (opens_room _ _ (start l).requires.0).narrow)
+mul-path c = let l = c in omega (arith, l.loop-d.invariant.most, (opens_room _ _ (start l.before.before.before).requires.0).narrow)
 
 slice-write-path : tie.Need-bounds-path-d-in-loop-d invariant-loop decreases-loop
-slice-write-path c = let l = c.before.before.before in omega (arith, l.loop-d.invariant.size, (start l).requires.1.room, c.before.before.loop-d-test.true)
+slice-write-path c = let l = c in omega (arith, l.loop-d.invariant.size, (start l.before.before.before).requires.1.room, c.loop-d-test.true)
 
 add-d : tie.Need-overflow_add-d invariant-loop decreases-loop
-add-d c = let l = c.before.before.before in omega (arith, l.loop-d.invariant.most, (opens_room _ _ (start l).requires.0).narrow)
+add-d c = let l = c in omega (arith, l.loop-d.invariant.most, (opens_room _ _ (start l.before.before.before).requires.0).narrow)
 
 loop-less : tie.Need-loop-d-smaller invariant-loop decreases-loop
-loop-less c = omega (arith, c.before.before.loop-d-test.true)
+loop-less c = omega (arith, c.loop-d-test.true)
 
 loop-again : tie.Need-loop-d-preserved invariant-loop decreases-loop
-loop-again c = let l = c.before.before.before in let s = start l in move_next _ s.args.e.bits _ _ _ s.requires.1 _ _ l.loop-d.invariant c.before.before.loop-d-test.true _ c.next_offset-x.ensures
+loop-again c = let l = c in let s = start l.before.before.before in move_next _ s.args.e.bits _ _ _ s.requires.1 _ _ l.loop-d.invariant c.loop-d-test.true _ c.next_offset-x.ensures
 
 same_length : tie.Need-shape_of-path invariant-loop decreases-loop
-same_length c = c.before.loop-d.invariant.size
+same_length c = c.loop-d.invariant.size
 
 returns : tie.Need-returns invariant-loop decreases-loop
-returns c = let l = c.before in let s = start l in move_end _ s.args.e.bits _ _ _ s.requires.1 _ _ l.loop-d.invariant c.loop-d-test.false
+returns c = let l = c in let s = start l.before in move_end _ s.args.e.bits _ _ _ s.requires.1 _ _ l.loop-d.invariant c.loop-d-test.false
 
 pub move_on_spec : {M : Type 1} → statement M
 move_on_spec =

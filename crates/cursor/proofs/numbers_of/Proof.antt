@@ -14,7 +14,7 @@ abbrev decreases-loop : tie.decreases-loop-d
 decreases-loop offsets path₀ d₀ path d = 256 - d
 
 size : (s : tie.Start invariant-loop decreases-loop) → length s.args.c.offsets ≡ 256
-size s = cursor_long s.args.c _ s.well-formed.0
+size s = cursor_long s.args.c _ s.well_formed.0
 
 loop-holds : tie.Need-loop-d-init invariant-loop decreases-loop
 loop-holds c = (omega arith, copied_none _ _ (sym (numbers_long _ ∙ size c.before)))
@@ -39,13 +39,13 @@ loop-less c = omega arith
 
 loop-again : tie.Need-loop-d-preserved invariant-loop decreases-loop
 loop-again c =
-    let l = c.before.before.loop-d in
-    let s = c.before.before.before.before in
+    let l = c.loop-d in
+    let s = c in
     let n = numbers_long s.args.c.offsets in
-    (omega arith, copied_more _ _ _ _ l.invariant.1 (omega (arith, size s, n)) (sym (numbers_at s.args.c.offsets l.d _ (omega (arith, size s)))))
+    (omega arith, copied_more _ _ _ _ l.invariant.1 (omega (arith, size s.before.before.before.before, n)) (sym (numbers_at s.args.c.offsets l.d _ (omega (arith, size s.before.before.before.before)))))
 
 returns : tie.Need-returns invariant-loop decreases-loop
-returns c = let s = c.before.before.before in let n = numbers_long s.args.c.offsets in copied_all _ _ _ c.before.loop-d.invariant.1 (omega (arith, size s, n))
+returns c = let s = c in let n = numbers_long s.args.c.offsets in copied_all _ _ _ c.loop-d.invariant.1 (omega (arith, size s.before.before.before, n))
 
 pub numbers_of_spec : {M : Type 1} → statement M
 numbers_of_spec =

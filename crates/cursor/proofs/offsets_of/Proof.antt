@@ -14,7 +14,7 @@ invariant-loop path offsets₀ d₀ offsets d = (d ≤ 256) × Copied path (numb
 abbrev decreases-loop : tie.decreases-loop-d
 decreases-loop path offsets₀ d₀ offsets d = 256 - d
 
-size : (s : tie.Start invariant-loop decreases-loop) → length s.args.t1 ≡ 256
+size : (s : tie.Start invariant-loop decreases-loop) → length s.args.path ≡ 256
 size s = search rules
 
 loop-holds : tie.Need-loop-d-init invariant-loop decreases-loop
@@ -41,11 +41,11 @@ loop-less c = omega arith
 
 loop-again : tie.Need-loop-d-preserved invariant-loop decreases-loop
 loop-again c =
-    let l = c.before.loop-d in
-    (omega arith, rw (numbers_set l.offsets l.d (record { 0 = get_or c.before.before.args.t1 l.d 0 })) (copied_more _ _ _ _ l.invariant.1 (omega (arith, size c.before.before)) refl))
+    let l = c.loop-d in
+    (omega arith, rw (numbers_set l.offsets l.d (record { 0 = get_or c.args.path l.d 0 })) (copied_more _ _ _ _ l.invariant.1 (omega (arith, size c.before.before)) refl))
 
 returns : tie.Need-returns invariant-loop decreases-loop
-returns c = copied_all _ _ _ c.before.loop-d.invariant.1 (omega (arith, size c.before.before))
+returns c = copied_all _ _ _ c.loop-d.invariant.1 (omega (arith, size c.before.before))
 
 pub offsets_of_spec : {M : Type 1} → statement M
 offsets_of_spec =

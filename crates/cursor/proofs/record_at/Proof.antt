@@ -29,7 +29,7 @@ cast-result c = search rules
 returns : tie.Need-returns
 unfolding code_in
 returns c =
-    let s = c.before.before.before.before.before.before in
+    let s = c in
     c.record_in-z.ensures.0 ∙ code_at s.args.l.now s.args.e s.args.r.0 s.requires.0 s.requires.1
 
 pub record_at_spec : {M : Type 1} → statement M

@@ -9,7 +9,7 @@ is-cursor-requires : tie.Need-is_cursor-requires
 is-cursor-requires c κs = search rules
 
 step-right-requires : tie.Need-step_right-requires
-step-right-requires c κs = let s = c.before.before.before.before.before.before.before.before.before in (s.requires.0, sym c.before.before.before.is_cursor.ensures ∙ c.before.before.if-is_cursor.true)
+step-right-requires c κs = let s = c in (s.requires.0, sym c.is_cursor.ensures ∙ c.if-is_cursor.true)
 
 same_length : tie.Need-shape_of-path-then-is_cursor
 same_length c = search rules
@@ -24,7 +24,7 @@ same-length-3 : tie.Need-shape_of-path
 same-length-3 c = search rules
 
 returns-2 : tie.Need-returns
-returns-2 c = step_wrong _ _ _ (sym c.before.is_cursor.ensures ∙ c.if-is_cursor.false)
+returns-2 c = step_wrong _ _ _ (sym c.is_cursor.ensures ∙ c.if-is_cursor.false)
 
 pub step_any_spec : {M : Type 1} → statement M
 step_any_spec =

@@ -13,7 +13,7 @@ valid : (s : tie.Start) → Valid (entry_in s.args.l.now)
 valid s = opens_valid _ _ s.requires.0
 
 turn-level-requires : tie.Need-turn_level-level-requires
-turn-level-requires c κs = let s = c.before.before.before.before in let z = at_set _ (valid s) _ s.requires.1 _ _ s.requires.0.width s.requires.0.bits in (s.requires.0, z.0, z.1)
+turn-level-requires c κs = let s = c in let z = at_set _ (valid s.before.before.before) _ s.requires.1 _ _ s.requires.0.width s.requires.0.bits in (s.requires.0, z.0, z.1)
 
 clear-requires : tie.Need-clear-requires
 clear-requires c κs = search rules
@@ -23,11 +23,11 @@ same_length c = search rules
 
 returns : tie.Need-returns-then-level-eq0
 returns c =
-    let s = c.before.before.before.before.before.before.before.before.before.before in
-    at_last _ (valid s) _ s.requires.1 _ _ s.requires.0.width s.requires.0.bits _ c.before.before.before.before.before.turn_level-level.ensures _ _ c.before.before.before.before.if-level-eq0.true c.before.before.clear.ensures
+    let s = c in
+    at_last _ (valid s.before.before.before.before.before.before.before.before.before) _ s.requires.1 _ _ s.requires.0.width s.requires.0.bits _ c.turn_level-level.ensures _ _ c.if-level-eq0.true c.clear.ensures
 
 bytes-for-requires : tie.Need-bytes_for-requires
-bytes-for-requires c κs = let s = c.before.before.before.before.before.before in omega (arith, (opens_room _ _ s.requires.0).narrow)
+bytes-for-requires c κs = let s = c in omega (arith, (opens_room _ _ s.requires.0).narrow)
 
 same-length-2 : tie.Need-shape_of-path-then-out-bytes_for
 same-length-2 c = search rules
@@ -35,23 +35,23 @@ same-length-2 c = search rules
 returns-2 : tie.Need-returns-then-out-bytes_for
 unfolding key_bytes started
 returns-2 c =
-    let s = c.before.before.before.before.before.before.before.before in
-    at_short _ (valid s) _ s.requires.1 _ _ s.requires.0.width s.requires.0.bits _ c.before.before.before.turn_level-level.ensures (positive _ c.before.before.if-level-eq0.false) _ (omega (arith, c.before.bytes_for.ensures.0, c.if-out-bytes_for.true))
+    let s = c in
+    at_short _ (valid s.before.before.before.before.before.before.before) _ s.requires.1 _ _ s.requires.0.width s.requires.0.bits _ c.turn_level-level.ensures (positive _ c.if-level-eq0.false) _ (omega (arith, c.bytes_for.ensures.0, c.if-out-bytes_for.true))
 
 sub-move-on : tie.Need-overflow_sub-level
 sub-move-on c = search rules
 
 move-on-requires : tie.Need-move_on-requires
 move-on-requires c κs =
-    let s = c.before.before.before.before.before.before.before.before.before in
-    (s.requires.0, at_movable _ (valid s) _ s.requires.1 _ _ s.requires.0.width s.requires.0.bits _ c.before.before.before.before.turn_level-level.ensures (positive _ c.before.before.before.if-level-eq0.false))
+    let s = c in
+    (s.requires.0, at_movable _ (valid s.before.before.before.before.before.before.before.before) _ s.requires.1 _ _ s.requires.0.width s.requires.0.bits _ c.turn_level-level.ensures (positive _ c.if-level-eq0.false))
 
 write-key-requires : tie.Need-write_key-n-requires
 unfolding key_bytes started
 write-key-requires c κs =
-    let s = c.before.before.before.before.before.before.before.before.before.before.before.before.before in
+    let s = c in
     let n = (opens_room _ _ s.requires.0).narrow in
-    (n, omega (arith, n, c.before.before.before.before.move-on.ensures.size, (right_parts _ _ s.requires.1).0), omega (arith, c.before.before.before.before.before.before.before.bytes-for.ensures.0, c.before.before.before.before.before.before.if2.false))
+    (n, omega (arith, n, c.move_on.ensures.size, (right_parts _ _ s.requires.1).0), omega (arith, c.bytes_for.ensures.0, c.if-out-bytes_for.false))
 
 same-length-3 : tie.Need-shape_of-path
 same-length-3 c = search rules
@@ -62,10 +62,10 @@ same-length-4 c = search rules
 returns-3 : tie.Need-returns
 unfolding key_bytes started
 returns-3 c =
-    let s = c.before.before.before.before.before.before.before.before.before.before.before.before.before.before.before.before in
-    let b = c.before.before.before.before.before.before.before.before.before.before.bytes-for.ensures.0 in
-    let w = c.before.before.write_key-n.ensures in
-    at_next _ (valid s) _ s.requires.1 _ _ s.requires.0.width s.requires.0.bits _ c.before.before.before.before.before.before.before.before.before.before.before.before.turn_level.ensures (positive _ c.before.before.before.before.before.before.before.before.before.before.before.if1.false) _ _ _ _ c.before.before.before.before.before.before.before.move-on.ensures (omega (arith, b, c.before.before.before.before.before.before.before.before.before.if2.false)) w.0 w.1
+    let s = c in
+    let b = c.bytes_for.ensures.0 in
+    let w = c.write_key-n.ensures in
+    at_next _ (valid s.before.before.before.before.before.before.before.before.before.before.before.before.before.before.before) _ s.requires.1 _ _ s.requires.0.width s.requires.0.bits _ c.turn_level-level.ensures (positive _ c.if-level-eq0.false) _ _ _ _ c.move_on.ensures (omega (arith, b, c.if-out-bytes_for.false)) w.0 w.1
 
 pub step_at_spec : {M : Type 1} → statement M
 step_at_spec =

@@ -17,30 +17,30 @@ some : (s : tie.Start) → (s.args.e.bits ≡ 0 → ⊥) → 0 < edge_count (ent
 some s h = let z = positive _ h in omega (arith, z, s.requires.0.bits)
 
 returns : tie.Need-returns-then-e-eq0
-returns c = let s = c.before.before.before.before.before in before_none _ (opens_valid _ _ s.requires.0) _ s.requires.1 _ (sym s.requires.0.bits ∙ c.if-e-eq0.true)
+returns c = let s = c in before_none _ (opens_valid _ _ s.requires.0) _ s.requires.1 _ (sym s.requires.0.bits ∙ c.if-e-eq0.true)
 
 bytes-for-requires : tie.Need-bytes_for-requires
-bytes-for-requires c κs = let s = c.before.before.before.before.before in omega (arith, (opens_room _ _ s.requires.0).narrow)
+bytes-for-requires c κs = let s = c in omega (arith, (opens_room _ _ s.requires.0).narrow)
 
 returns-2 : tie.Need-returns-then-out-bytes_for
 unfolding key_bytes started
 returns-2 c =
-    let s = c.before.before.before.before.before.before.before in
-    before_short _ (opens_valid _ _ s.requires.0) _ s.requires.1 (some s c.before.before.if-e-eq0.false) _ _ s.requires.0.width (omega (arith, c.before.bytes_for.ensures.0, c.if-out-bytes_for.true))
+    let s = c in
+    before_short _ (opens_valid _ _ s.requires.0) _ s.requires.1 (some s.before.before.before.before.before.before.before c.if-e-eq0.false) _ _ s.requires.0.width (omega (arith, c.bytes_for.ensures.0, c.if-out-bytes_for.true))
 
 first-path-requires : tie.Need-first_path-requires
 first-path-requires c κs =
-    let s = c.before.before.before.before.before.before.before.before in
+    let s = c in
     let z = ap length s.requires.1 ∙ length-replicate {A = ℕ} 256 0 in
-    (s.requires.0, positive _ c.before.before.before.if-e-eq0.false, omega (arith, z, (opens_room _ _ s.requires.0).narrow))
+    (s.requires.0, positive _ c.if-e-eq0.false, omega (arith, z, (opens_room _ _ s.requires.0).narrow))
 
 write-key-requires : tie.Need-write_key-n-requires
 unfolding key_bytes started
 write-key-requires c κs =
-    let s = c.before.before.before.before.before.before.before.before.before.before.before.before.before in
+    let s = c in
     let v = opens_valid _ _ s.requires.0 in
-    let z = path_long _ v 0 (first_some _ v (some s c.before.before.before.before.before.before.before.before.if1.false)) s.args.path.now in
-    ((opens_room _ _ s.requires.0).narrow, rw c.before.before.before.before.first_path.ensures (omega (arith, z, s.requires.0.width)), omega (arith, c.before.before.before.before.before.before.before.bytes-for.ensures.0, c.before.before.before.before.before.before.if2.false))
+    let z = path_long _ v 0 (first_some _ v (some s.before.before.before.before.before.before.before.before.before.before.before.before c.if-e-eq0.false)) s.args.path.now in
+    ((opens_room _ _ s.requires.0).narrow, rw c.first_path.ensures (omega (arith, z, s.requires.0.width)), omega (arith, c.bytes_for.ensures.0, c.if-out-bytes_for.false))
 
 same_length : tie.Need-shape_of-path
 same_length c = search rules
@@ -51,10 +51,10 @@ same-length-2 c = search rules
 returns-3 : tie.Need-returns
 unfolding key_bytes started
 returns-3 c =
-    let s = c.before.before.before.before.before.before.before.before.before.before.before.before.before.before.before.before in
-    let b = c.before.before.before.before.before.before.before.before.before.before.bytes-for.ensures.0 in
-    let w = c.before.before.write_key-n.ensures in
-    before_first _ (opens_valid _ _ s.requires.0) _ s.requires.1 (some s c.before.before.before.before.before.before.before.before.before.before.before.if1.false) _ _ _ _ _ c.before.before.before.before.before.before.before.first_path.ensures s.requires.0.width (omega (arith, b, c.before.before.before.before.before.before.before.before.before.if2.false)) w.0 w.1
+    let s = c in
+    let b = c.bytes_for.ensures.0 in
+    let w = c.write_key-n.ensures in
+    before_first _ (opens_valid _ _ s.requires.0) _ s.requires.1 (some s.before.before.before.before.before.before.before.before.before.before.before.before.before.before.before c.if-e-eq0.false) _ _ _ _ _ c.first_path.ensures s.requires.0.width (omega (arith, b, c.if-out-bytes_for.false)) w.0 w.1
 
 pub step_before_spec : {M : Type 1} → statement M
 step_before_spec =

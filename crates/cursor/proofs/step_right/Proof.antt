@@ -10,7 +10,7 @@ enum_told : tie.Need-enum_told-1
 enum_told c = search rules
 
 step-at-requires : tie.Need-step_at-requires
-step-at-requires c κs = let s = c.before.before.before.before.before.before in (s.requires.0, state_right _ _ _ _ c.in-At.is s.requires.1)
+step-at-requires c κs = let s = c in (s.requires.0, state_right _ _ _ _ c.in-At.is s.requires.1)
 
 enum-told-2 : tie.Need-enum_told-in-Before
 enum-told-2 c = search rules
@@ -18,7 +18,7 @@ enum-told-2 c = search rules
 step-before-requires : tie.Need-step_before-requires
 unfolding padded
 step-before-requires c κs =
-    let s = c.before.before.before.before.before.before in
+    let s = c in
     (s.requires.0, right_before (entry_in s.args.l.now) _ (state_right (entry_in s.args.l.now) _ _ _ c.in-Before.is s.requires.1))
 
 enum-told-3 : tie.Need-enum_told-in-After
@@ -43,7 +43,7 @@ returns-2 : tie.Need-returns-in-Before
 returns-2 c = step_in _ _ _ _ _ _ c.in-Before.is c.step_before.ensures
 
 returns-3 : tie.Need-returns-in-After
-returns-3 c = let s = c.before.before.before.before in let t = c.in-After.is in step_in _ _ _ _ _ _ t (after_stays _ _ _ (state_right _ _ _ _ t s.requires.1))
+returns-3 c = let s = c in let t = c.in-After.is in step_in _ _ _ _ _ _ t (after_stays _ _ _ (state_right _ _ _ _ t s.requires.1))
 
 pub step_right_spec : {M : Type 1} → statement M
 step_right_spec =

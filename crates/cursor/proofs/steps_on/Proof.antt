@@ -35,7 +35,7 @@ module _ (b : tie.After-bytes_of-n invariant-loop decreases-loop) where
 
   room : key_bytes (entry_in (start test).args.l.now).width ≤ length test.loop-out.out - test.loop-out.at
   unfolding key_bytes started
-  room = omega (arith, test.before.bytes_for-t.ensures.0, b.before.before.before.before.before.before.before.before.loop-out-test.true, (start test).requires.0.width)
+  room = omega (arith, test.bytes_for-t.ensures.0, b.loop-out-test.true, (start test).requires.0.width)
 
   abbrev step : tie.After-step_right-w invariant-loop decreases-loop
   step = b.before.before.before.before.before
@@ -47,25 +47,25 @@ module _ (b : tie.After-bytes_of-n invariant-loop decreases-loop) where
   on = walk_more _ _ _ _ _ _ _ test.loop-out.invariant valid room step.step_right-w.result _ _ step.step_right-w.ensures _ b.bytes_of-n.ensures
 
 bytes-for-requires : tie.Need-bytes_for-t-requires invariant-loop decreases-loop
-bytes-for-requires c κs = omega (arith, (opens_room _ _ c.before.before.before.requires.0).narrow)
+bytes-for-requires c κs = omega (arith, (opens_room _ _ c.requires.0).narrow)
 
 loop-holds : tie.Need-loop-out-init invariant-loop decreases-loop
-loop-holds c = let s = c.before.before.before.before in walk_start _ _ _ _ s.requires.1 s.requires.2
+loop-holds c = let s = c in walk_start _ _ _ _ s.requires.1 s.requires.2
 
 sub-loop : tie.Need-overflow_sub-out invariant-loop decreases-loop
 sub-loop c = c.loop-out.invariant.inside
 
 sub-step-right : tie.Need-slice_bounds-step_right-count invariant-loop decreases-loop
-sub-step-right c = c.before.before.loop-out.invariant.inside
+sub-step-right c = c.loop-out.invariant.inside
 
 part-step-right-start : tie.Need-slice_bounds-step_right-start invariant-loop decreases-loop
-part-step-right-start c = let z = c.before.before.loop-out.invariant.inside in search rules
+part-step-right-start c = let z = c.loop-out.invariant.inside in search rules
 
 part-step-right-end : tie.Need-slice_bounds-step_right-end invariant-loop decreases-loop
 part-step-right-end c = search rules
 
 step-right-requires : tie.Need-step_right-w-requires invariant-loop decreases-loop
-step-right-requires c κs = let l = c.before.before.before in ((start l).requires.0, l.loop-out.invariant.right)
+step-right-requires c κs = let l = c in ((start l.before.before.before).requires.0, l.loop-out.invariant.right)
 
 bytes-of-requires : tie.Need-bytes_of-n-requires invariant-loop decreases-loop
 bytes-of-requires c κs = search rules
@@ -78,8 +78,8 @@ same-length-2 c = let z = (test c.before).loop-out.invariant.size in search rule
 
 returns : tie.Need-returns-then-n-eq0 invariant-loop decreases-loop
 returns c =
-    let b = c.before in
-    walk_last _ _ _ _ _ _ _ (test b).loop-out.invariant (valid b) (room b) (step b).step_right-w.result _ _ (step b).step_right-w.ensures _ b.bytes_of-n.ensures c.if-n-eq0.true
+    let b = c in
+    walk_last _ _ _ _ _ _ _ (test b.before).loop-out.invariant (valid b.before) (room b.before) (step b.before).step_right-w.result _ _ (step b.before).step_right-w.ensures _ b.bytes_of-n.ensures c.if-n-eq0.true
 
 add_at : tie.Need-overflow_add-at invariant-loop decreases-loop
 add_at c = let w = on c.before c.if-n-eq0.false in omega (arith, w.inside, w.size)
@@ -94,11 +94,11 @@ same-length-3 : tie.Need-shape_of-path invariant-loop decreases-loop
 same-length-3 c = levels c.before
 
 same-length-4 : tie.Need-shape_of-out invariant-loop decreases-loop
-same-length-4 c = c.before.loop-out.invariant.size
+same-length-4 c = c.loop-out.invariant.size
 
 returns-2 : tie.Need-returns invariant-loop decreases-loop
 unfolding key_bytes started
-returns-2 c = let l = c.before in walk_full _ _ _ _ _ _ _ l.loop-out.invariant (omega (arith, l.before.bytes_for-t.ensures.0, c.loop-out-test.false, (start l).requires.0.width))
+returns-2 c = let l = c in walk_full _ _ _ _ _ _ _ l.loop-out.invariant (omega (arith, l.bytes_for-t.ensures.0, c.loop-out-test.false, (start l.before).requires.0.width))
 
 pub steps_on_spec : {M : Type 1} → statement M
 steps_on_spec =

@@ -25,13 +25,13 @@ same-length-2 : tie.Need-shape_of-out-then-n-eq0
 same-length-2 c = search rules
 
 returns : tie.Need-returns-then-n-eq0
-returns c = let b = c.before in walk_none _ _ (start b).requires.1 _ (step b).step_right-w.result _ _ (step b).step_right-w.ensures _ b.bytes_of-n.ensures c.if-n-eq0.true
+returns c = let b = c in walk_none _ _ (start b.before).requires.1 _ (step b.before).step_right-w.result _ _ (step b.before).step_right-w.ensures _ b.bytes_of-n.ensures c.if-n-eq0.true
 
 steps-on-requires : tie.Need-steps_on-requires
 steps-on-requires c κs =
-    let b = c.before.before.before in
-    let z = walk_begun _ _ (start b).requires.1 _ (step b).step_right-w.result _ _ (step b).step_right-w.ensures _ b.bytes_of-n.ensures c.before.before.if-n-eq0.false (opens_valid _ _ (start b).requires.0) in
-    ((start b).requires.0, z.0, z.1)
+    let b = c in
+    let z = walk_begun _ _ (start b.before.before.before).requires.1 _ (step b.before.before.before).step_right-w.result _ _ (step b.before.before.before).step_right-w.ensures _ b.bytes_of-n.ensures c.if-n-eq0.false (opens_valid _ _ (start b.before.before.before).requires.0) in
+    ((start b.before.before.before).requires.0, z.0, z.1)
 
 same-length-3 : tie.Need-shape_of-path
 same-length-3 c = search rules
@@ -41,8 +41,8 @@ same-length-4 c = search rules
 
 returns-2 : tie.Need-returns
 returns-2 c =
-    let b = c.before.before.before.before.before.before.before.before in
-    walk_whole _ _ (start b).requires.1 _ (step b).step_right-w.result _ _ (step b).step_right-w.ensures _ b.bytes_of-n.ensures c.before.before.before.before.before.before.before.if-n-eq0.false _ c.before.before.before.before.steps_on.ensures
+    let b = c in
+    walk_whole _ _ (start b.before.before.before.before.before.before.before.before).requires.1 _ (step b.before.before.before.before.before.before.before.before).step_right-w.result _ _ (step b.before.before.before.before.before.before.before.before).step_right-w.ensures _ b.bytes_of-n.ensures c.if-n-eq0.false _ c.steps_on.ensures
 
 pub walk_right_spec : {M : Type 1} → statement M
 walk_right_spec =

@@ -32,10 +32,10 @@ loop-less : tie.Need-loop-i-smaller invariant-loop decreases-loop
 loop-less c = omega arith
 
 loop-again : tie.Need-loop-i-preserved invariant-loop decreases-loop
-loop-again c = let l = c.before.before in (omega arith, l.loop-i.invariant.1 ∙ zeros_more l.before.args.path.now l.loop-i.i l.loop-i.set c.before.loop-i-test.true)
+loop-again c = let l = c in (omega arith, l.loop-i.invariant.1 ∙ zeros_more l.args.path.now l.loop-i.i l.loop-i.set c.loop-i-test.true)
 
 returns : tie.Need-returns invariant-loop decreases-loop
-returns c = let l = c.before in zeros_end l.before.args.path.now l.loop-i.i l.loop-i.set c.loop-i-test.false ∙ sym l.loop-i.invariant.1
+returns c = let l = c in zeros_end l.args.path.now l.loop-i.i l.loop-i.set c.loop-i-test.false ∙ sym l.loop-i.invariant.1
 
 pub zeros_from_spec : {M : Type 1} → statement M
 zeros_from_spec =

@@ -24,48 +24,48 @@ loop-holds : tie.Need-loop-e-init invariant-loop decreases-loop
 loop-holds c = omega arith
 
 sub-if1 : tie.Need-overflow_sub-e invariant-loop decreases-loop
-sub-if1 c = c.before.loop-e.invariant
+sub-if1 c = c.loop-e.invariant
 
 mul-if1 : tie.Need-offset_bounds-starts-e invariant-loop decreases-loop
-mul-if1 c = omega (arith, (start c).well-formed, (start c).requires.0, c.loop-e-test.true)
+mul-if1 c = omega (arith, (start c).well_formed, (start c).requires.0, c.loop-e-test.true)
 
 shared-slice-read-if1 : tie.Need-bounds-starts-e invariant-loop decreases-loop
-shared-slice-read-if1 c = let w = c.before in omega (arith, (start w).requires.0, w.loop-e-test.true)
+shared-slice-read-if1 c = let w = c in omega (arith, (start w.before).requires.0, w.loop-e-test.true)
 
 add-if1 : tie.Need-overflow_add-starts invariant-loop decreases-loop
-add-if1 c = let w = c.before in record { fits = omega (arith, (start w).requires.1 (w.before.loop-e.e - 1) (omega (arith, w.loop-e-test.true)), (start w).requires.2) }
+add-if1 c = let w = c in record { fits = omega (arith, (start w.before).requires.1 (w.loop-e.e - 1) (omega (arith, w.loop-e-test.true)), (start w.before).requires.2) }
 
 mul-if1-2 : tie.Need-offset_bounds-starts-e-in-loop-e invariant-loop decreases-loop
-mul-if1-2 c = let w = c.before in omega (arith, (start w).well-formed, (start w).requires.0, w.loop-e-test.true)
+mul-if1-2 c = let w = c in omega (arith, (start w.before).well_formed, (start w.before).requires.0, w.loop-e-test.true)
 
 shared-slice-read-if1-2 : tie.Need-bounds-starts-e-in-loop-e invariant-loop decreases-loop
-shared-slice-read-if1-2 c = let w = c.before.before in omega (arith, (start w).requires.0, w.loop-e-test.true)
+shared-slice-read-if1-2 c = let w = c in omega (arith, (start w.before.before).requires.0, w.loop-e-test.true)
 
 sub-result : tie.Need-overflow_sub-result invariant-loop decreases-loop
-sub-result c = c.before.before.before.before.loop-e.invariant
+sub-result c = c.loop-e.invariant
 
 returns : tie.Need-returns-then-starts-e invariant-loop decreases-loop
 returns c =
-    let w = c.before.before.before in
-    let a = (start w).args in
-    let e : ℕ = w.before.loop-e.e in
-    let z : suc (e - 1) ≡ e = omega (arith, w.before.loop-e.invariant) in
+    let w = c in
+    let a = (start w.before.before.before).args in
+    let e : ℕ = w.loop-e.e in
+    let z : suc (e - 1) ≡ e = omega (arith, w.loop-e.invariant) in
     record {
       most = omega (arith, w.loop-e-test.true);
       size = λ h. (omega (arith, w.loop-e-test.true, z), ap (λ k. get_or a.starts.now k 0) z ∙ sym c.if-starts-e.true);
     }
 
 add-e : tie.Need-overflow_add-e invariant-loop decreases-loop
-add-e c = let w = c.before.before.before in record { fits = omega (arith, w.loop-e-test.true, (start w).ranges) }
+add-e c = let w = c in record { fits = omega (arith, w.loop-e-test.true, (start w.before.before.before).ranges) }
 
 loop-less : tie.Need-loop-e-smaller invariant-loop decreases-loop
-loop-less c = let w = c.before.before.before in omega (arith, w.loop-e-test.true)
+loop-less c = let w = c in omega (arith, w.loop-e-test.true)
 
 loop-again : tie.Need-loop-e-preserved invariant-loop decreases-loop
 loop-again c = omega arith
 
 returns-2 : tie.Need-returns invariant-loop decreases-loop
-returns-2 c = let a = c.before.before.args in none_found a.m a.n a.starts.now
+returns-2 c = let a = c.args in none_found a.m a.n a.starts.now
 
 pub apart_from_spec : {M : Type 1} → statement M
 apart_from_spec =

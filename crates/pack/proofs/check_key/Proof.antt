@@ -13,7 +13,7 @@ module _ (s : tie.Start) where
   room = far s.args.m s.args.t s.args.i s.args.batch.now s.requires
 
 mul_at : tie.Need-overflow_mul-at
-mul_at c = record { fits = omega (arith, room c.before, c.before.well-formed) }
+mul_at c = record { fits = omega (arith, room c.before, c.well_formed) }
 
 sub-unused-set : tie.Need-slice_bounds-unused_set-count
 sub-unused-set c = omega (arith, room c.before)
@@ -26,13 +26,13 @@ part-unused-set-end c = search rules
 
 unused-set-requires : tie.Need-unused_set-requires
 unused-set-requires c κs =
-    let s = c.before.before in
-    ((s.requires.positive, s.requires.narrow), (s.requires.size, omega (arith, room s, length_lent s.args.batch.now (s.args.t * s.args.i))))
+    let s = c in
+    ((s.requires.positive, s.requires.narrow), (s.requires.size, omega (arith, room s.before.before, length_lent s.args.batch.now (s.args.t * s.args.i))))
 
 returns : tie.Need-returns-then-unused_set
 returns c =
-    let u = c.before in
-    let s = u.before.before.before in
+    let u = c in
+    let s = u in
     unused_refused s.args.m s.args.t s.args.i s.args.batch.now s.requires (sym c.if-unused_set.true ∙ u.unused_set.ensures)
 
 first-new-requires : tie.Need-first_new-new-requires
@@ -43,19 +43,19 @@ descends-requires c κs = search rules
 
 returns-2 : tie.Need-returns-then-descends
 returns-2 c =
-    let d = c.before in
-    let e = d.before.before in
-    let u = e.before in
-    let s = u.before.before.before in
+    let d = c in
+    let e = d in
+    let u = e in
+    let s = u in
     descending_refused s.args.m s.args.t s.args.i s.args.batch.now s.requires (sym e.if-unused_set.false ∙ u.unused_set.ensures) (sym c.if-descends.true ∙ d.descends.ensures)
 
 returns-3 : tie.Need-returns
 returns-3 c =
-    let d = c.before in
-    let e = d.before.before in
-    let u = e.before in
-    let s = u.before.before.before in
-    (key_passes s.args.m s.args.t s.args.i s.args.batch.now s.requires (sym e.if-unused_set.false ∙ u.unused_set.ensures) (sym c.if-descends.false ∙ d.descends.ensures), d.before.first_new-new.ensures)
+    let d = c in
+    let e = d in
+    let u = e in
+    let s = u in
+    (key_passes s.args.m s.args.t s.args.i s.args.batch.now s.requires (sym e.if-unused_set.false ∙ u.unused_set.ensures) (sym c.if-descends.false ∙ d.descends.ensures), d.first_new-new.ensures)
 
 pub check_key_spec : {M : Type 1} → statement M
 check_key_spec =

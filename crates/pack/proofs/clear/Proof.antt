@@ -28,8 +28,8 @@ loop-less c = omega arith
 
 loop-again : tie.Need-loop-i-preserved invariant-loop decreases-loop
 loop-again c =
-    let h = c.before in
-    let d = h.before.args.b.now in
+    let h = c in
+    let d = h.args.b.now in
     let l : h.loop-i.i < length d = omega arith in
     (omega arith, simp length-set h.loop-i.invariant.1, ap (λ x. set x h.loop-i.i 0) h.loop-i.invariant.2 ∙ fill_more h.loop-i.i 0 d l)
 
@@ -38,8 +38,8 @@ same_length c = search rules
 
 returns : tie.Need-returns invariant-loop decreases-loop
 returns c =
-    let h = c.before in
-    let d = h.before.args.b.now in
+    let h = c in
+    let d = h.args.b.now in
     let z : h.loop-i.i ≡ length d = omega arith in
     h.loop-i.invariant.2 ∙ rw (z, drop_of_length-le d {i = length d} (omega arith)) (append-nil (replicate (length d) 0))
 

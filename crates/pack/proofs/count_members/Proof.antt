@@ -28,13 +28,13 @@ decreases-loop m batch t n members₀ i₀ members i = n - i
 -- the batch, of keys of the width's bytes
 module _ (c : tie.After-bytes_for-t invariant-loop decreases-loop) where
   abbrev m : ℕ
-  m = c.before.before.args.m
+  m = c.args.m
 
   abbrev l : Bytes
-  l = c.before.before.args.batch.now
+  l = c.args.batch.now
 
   abbrev batch : Clean m l
-  batch = clean m l c.before.before.requires
+  batch = clean m l c.requires
 
   t-is : c.bytes_for-t.result ≡ key_bytes m
   unfolding key_bytes
@@ -44,7 +44,7 @@ module _ (c : tie.After-bytes_for-t invariant-loop decreases-loop) where
   n-is = ap (λ t. length l / t) t-is
 
 bytes-for-requires : tie.Need-bytes_for-t-requires invariant-loop decreases-loop
-bytes-for-requires c κs = omega (arith, (clean c.before.args.m c.before.args.batch.now c.before.requires).batch.narrow)
+bytes-for-requires c κs = omega (arith, (clean c.args.m c.args.batch.now c.requires).batch.narrow)
 
 div-n : tie.Need-nonzero_div-n invariant-loop decreases-loop
 unfolding key_bytes started
@@ -55,8 +55,8 @@ loop-holds c = (omega arith, sym (count_start (m c) (key (m c) (l c)) (m c)), om
 
 first-new-requires : tie.Need-first_new-requires invariant-loop decreases-loop
 first-new-requires c κs =
-    let b = c.before.before in
-    subst (λ t. KeyThere (m b) t c.before.loop-i.i (l b)) (sym (t-is b)) (key_there (m b) (key_bytes (m b)) (keys (m b) (l b)) (l b) (batch b).batch c.before.loop-i.i (omega (arith, n-is b, c.loop-i-test.true)))
+    let b = c in
+    subst (λ t. KeyThere (m b.before.before) t c.loop-i.i (l b.before.before)) (sym (t-is b.before.before)) (key_there (m b.before.before) (key_bytes (m b.before.before)) (keys (m b.before.before) (l b.before.before)) (l b.before.before) (batch b.before.before).batch c.loop-i.i (omega (arith, n-is b.before.before, c.loop-i-test.true)))
 
 cast-members : tie.Need-overflow_cast-members invariant-loop decreases-loop
 cast-members c = search rules
@@ -70,26 +70,26 @@ module _ (c : tie.After-first_new invariant-loop decreases-loop) where
   sized = turn.before.before
 
   abbrev i : ℕ
-  i = turn.before.loop-i.i
+  i = turn.loop-i.i
 
   below : i < keys (m sized) (l sized)
   below = omega (arith, n-is sized, turn.loop-i-test.true)
 
   short : keys (m sized) (l sized) < 2 ^ 64
-  short = omega (arith, sized.before.before.good, few_keys (m sized) (key_bytes (m sized)) (keys (m sized) (l sized)) (l sized) (batch sized).batch)
+  short = omega (arith, sized.well_formed, few_keys (m sized) (key_bytes (m sized)) (keys (m sized) (l sized)) (l sized) (batch sized).batch)
 
-  one_more : turn.before.loop-i.members + bool_byte (leb c.first_new.result (m sized)) ≡ prefix_count (m sized) (m sized) (set_below (key (m sized) (l sized)) (suc i))
+  one_more : turn.loop-i.members + bool_byte (leb c.first_new.result (m sized)) ≡ prefix_count (m sized) (m sized) (set_below (key (m sized) (l sized)) (suc i))
   one_more =
       omega (
         arith,
         byte_bit (leb c.first_new.result (m sized)),
         ap (λ x. bit (leb x (m sized))) c.first_new.ensures,
-        turn.before.loop-i.invariant.1,
+        turn.loop-i.invariant.1,
         count_step (m sized) (keys (m sized) (l sized)) (key (m sized) (l sized)) (batch sized).rises i (m sized) below (omega arith),
       )
 
-  no_more : turn.before.loop-i.members + bool_byte (leb c.first_new.result (m sized)) ≤ i + 1
-  no_more = omega (arith, byte_bit (leb c.first_new.result (m sized)), bit_le (leb c.first_new.result (m sized)), turn.before.loop-i.invariant.2)
+  no_more : turn.loop-i.members + bool_byte (leb c.first_new.result (m sized)) ≤ i + 1
+  no_more = omega (arith, byte_bit (leb c.first_new.result (m sized)), bit_le (leb c.first_new.result (m sized)), turn.loop-i.invariant.2)
 
 add-members : tie.Need-overflow_add-members invariant-loop decreases-loop
 add-members c = record { fits = omega (arith, no_more c, below c, short c) }
@@ -105,10 +105,10 @@ loop-again c = (omega (arith, (turn c).loop-i-test.true), rw (add-one (i c)) (on
 
 returns : tie.Need-returns invariant-loop decreases-loop
 returns c =
-    let h = c.before in
-    let b = h.before in
-    let z : h.loop-i.i ≡ keys (m b) (l b) = omega (arith, n-is b, c.loop-i-test.false, h.loop-i.invariant.0) in
-    (rw z at h.loop-i.invariant.1) ∙ sym (batch_members (m b) (l b))
+    let h = c in
+    let b = h in
+    let z : h.loop-i.i ≡ keys (m b.before.before) (l b.before.before) = omega (arith, n-is b.before.before, c.loop-i-test.false, h.loop-i.invariant.0) in
+    (rw z at h.loop-i.invariant.1) ∙ sym (batch_members (m b.before.before) (l b.before.before))
 
 pub count_members_spec : {M : Type 1} → statement M
 count_members_spec =

@@ -32,13 +32,13 @@ module _ (w : tie.In-loop-i invariant-loop decreases-loop) where
   start = w.before.before.before.before
 
   abbrev at : ℕ
-  at = w.before.loop-i.i
+  at = w.loop-i.i
 
   abbrev bytes : Bytes
   bytes = start.args.batch.now
 
   abbrev passed : first_of (tests_below start.args.m bytes at) ≡ none
-  passed = w.before.loop-i.invariant.2
+  passed = w.loop-i.invariant.2
 
   -- the key passes with its first new length
   passes : (r : Verdict) (new : ℕ) → KeyChecked start.args.m bytes at r → r ≡ Accepted new → (first_of (tests_below start.args.m bytes (suc at)) ≡ none) × (new ≡ first_new (key start.args.m bytes) at)
@@ -48,7 +48,7 @@ module _ (w : tie.In-loop-i invariant-loop decreases-loop) where
 
 loop-holds : tie.Need-loop-i-init invariant-loop decreases-loop
 loop-holds c =
-    let s = c.before.before in
+    let s = c in
     (omega arith, refl, none_tested s.args.m s.args.batch.now, none_yet s.args.m s.args.m (λ e. 0) (key s.args.m s.args.batch.now) (running s.args.counts.now s.args.m) (running_zero s.args.counts.now s.args.m s.requires.zero))
 
 check-key-requires : tie.Need-check_key-checked-requires invariant-loop decreases-loop
@@ -62,26 +62,26 @@ same_length c = search rules
 
 returns : tie.Need-returns-in-Refused invariant-loop decreases-loop
 returns c =
-    let k = c.before in
-    let w = k.before in
-    first_refused (start w).args.m (bytes w) (at w) (start w).args.n c.in-Refused.k w.loop-i-test.true (passed w)
-    (subst (KeyChecked (start w).args.m (bytes w) (at w)) c.in-Refused.is k.check_key-checked.ensures)
+    let k = c in
+    let w = k in
+    first_refused (start w.before.before).args.m (bytes w.before.before) (at w.before.before) (start w.before.before).args.n c.in-Refused.k w.loop-i-test.true (passed w.before.before)
+    (subst (KeyChecked (start w.before.before).args.m (bytes w.before.before) (at w.before.before)) c.in-Refused.is k.check_key-checked.ensures)
 
 enum-known-checked-2 : tie.Need-enum_known-checked-in-Accepted-1 invariant-loop decreases-loop
 enum-known-checked-2 c = search rules
 
 note-requires : tie.Need-note-requires invariant-loop decreases-loop
 note-requires c κs =
-    let w = c.before.before.before in
-    let h = w.before in
-    let s = start w in (
+    let w = c in
+    let h = w in
+    let s = start w.before.before.before in (
       omega (arith, s.requires.long, h.loop-i.invariant.1),
       λ e l.
           omega (
             arith,
-            s.good,
-            few_keys s.args.m s.args.t s.args.n (bytes w) s.requires.batch,
-            counted_le s.args.m (at w) (λ x. 0) (key s.args.m (bytes w)) (rising s.args.m (bytes w) (at w) (passed w)) (at w) (running h.loop-i.counts s.args.m) (omega arith) h.loop-i.invariant.3 e l,
+            s.well_formed,
+            few_keys s.args.m s.args.t s.args.n (bytes w.before.before.before) s.requires.batch,
+            counted_le s.args.m (at w.before.before.before) (λ x. 0) (key s.args.m (bytes w.before.before.before)) (rising s.args.m (bytes w.before.before.before) (at w.before.before.before) (passed w.before.before.before)) (at w.before.before.before) (running h.loop-i.counts s.args.m) (omega arith) h.loop-i.invariant.3 e l,
             noted_le h.loop-i.counts s.args.m e l,
             w.loop-i-test.true,
           ),
@@ -95,16 +95,16 @@ loop-less c = search rules
 
 loop-again : tie.Need-loop-i-preserved invariant-loop decreases-loop
 loop-again c =
-    let b = c.before.before in
-    let d = b.before.before in
-    let k = d.before in
-    let w = k.before in
-    let s = start w in
-    let p = passes w k.check_key-checked.result d.in-Accepted.new k.check_key-checked.ensures d.in-Accepted.is in (
+    let b = c in
+    let d = b in
+    let k = d in
+    let w = k in
+    let s = start w.before.before.before.before.before.before in
+    let p = passes w.before.before.before.before.before.before k.check_key-checked.result d.in-Accepted.new k.check_key-checked.ensures d.in-Accepted.is in (
       omega (arith, w.loop-i-test.true),
       b.note.auto.counts ∙ w.loop-i.invariant.1,
-      rw (add-one (at w)) p.0,
-      counted_more s.args.m (suc (at w)) (λ x. 0) (key s.args.m (bytes w)) (rising s.args.m (bytes w) (suc (at w)) p.0) s.args.m (at w) d.in-Accepted.new (running w.loop-i.counts s.args.m) (running b.note.new.counts s.args.m) (omega arith) (omega arith) p.1 b.note.ensures w.loop-i.invariant.3,
+      rw (add-one (at w.before.before.before.before.before.before)) p.0,
+      counted_more s.args.m (suc (at w.before.before.before.before.before.before)) (λ x. 0) (key s.args.m (bytes w.before.before.before.before.before.before)) (rising s.args.m (bytes w.before.before.before.before.before.before) (suc (at w.before.before.before.before.before.before)) p.0) s.args.m (at w.before.before.before.before.before.before) d.in-Accepted.new (running w.loop-i.counts s.args.m) (running b.note.new.counts s.args.m) (omega arith) (omega arith) p.1 b.note.ensures w.loop-i.invariant.3,
     )
 
 same-length-2 : tie.Need-shape_of-counts invariant-loop decreases-loop
@@ -112,8 +112,8 @@ same-length-2 c = search rules
 
 returns-2 : tie.Need-returns invariant-loop decreases-loop
 returns-2 c =
-    let h = c.before in
-    let z : h.loop-i.i ≡ h.before.before.before.args.n = omega (arith, c.loop-i-test.false, h.loop-i.invariant.0) in
+    let h = c in
+    let z : h.loop-i.i ≡ h.args.n = omega (arith, c.loop-i-test.false, h.loop-i.invariant.0) in
     (rw z at h.loop-i.invariant.2, λ e l. omega (arith, rw z at (h.loop-i.invariant.3 e l)), refl)
 
 pub count_records_spec : {M : Type 1} → statement M

@@ -20,27 +20,27 @@ module _ (c : tie.Else-new-m) where
   bytes = start.args.batch.now
 
   lies : start.args.t * start.args.i ≡ start.args.t * (start.args.i - 1) + start.args.t
-  lies = before start.args.m start.args.t start.args.i bytes start.requires.0 c.before.if-i-eq0.false
+  lies = before start.args.m start.args.t start.args.i bytes start.requires.0 c.if-i-eq0.false
 
   room : start.args.t * start.args.i + start.args.t ≤ length bytes
   room = far start.args.m start.args.t start.args.i bytes start.requires.0
 
   one : 1 ≤ start.args.new
-  one = some_new start.args.m start.args.t start.args.i start.args.new bytes start.requires.0 c.before.if-i-eq0.false start.requires.1
+  one = some_new start.args.m start.args.t start.args.i start.args.new bytes start.requires.0 c.if-i-eq0.false start.requires.1
 
 returns : tie.Need-returns-then-i-eq0
-returns c = let a = c.before.before.args in first_rises (key a.m a.batch.now) a.i c.if-i-eq0.true
+returns c = let a = c.args in first_rises (key a.m a.batch.now) a.i c.if-i-eq0.true
 
 returns-2 : tie.Need-returns-then-new-m
 returns-2 c =
-    let s = c.before.before.before in
-    all_common s.args.m s.args.t s.args.i s.args.new s.args.batch.now s.requires.0 c.before.if-i-eq0.false s.requires.1 c.if-new-m.true
+    let s = c in
+    all_common s.args.m s.args.t s.args.i s.args.new s.args.batch.now s.requires.0 c.if-i-eq0.false s.requires.1 c.if-new-m.true
 
 sub-before : tie.Need-overflow_sub-before
 sub-before c = search rules
 
 mul-before : tie.Need-overflow_mul-before
-mul-before c = record { fits = omega (arith, lies c, room c, (start c).well-formed) }
+mul-before c = record { fits = omega (arith, lies c, room c, (start c).well_formed) }
 
 sub-bit-at : tie.Need-slice_bounds-bit_at-count
 sub-bit-at c = omega (arith, lies c, room c)
@@ -57,15 +57,15 @@ sub-bit-at-2 c = one c.before
 bit-at-requires : tie.Need-bit_at-requires
 unfolding key_bytes started
 bit-at-requires c κs =
-    let e = c.before in
-    let a = (start e).args in
-    omega (arith, length_lent (bytes e) (a.t * (a.i - 1)), lies e, room e, (start e).requires.0.size, one e)
+    let e = c in
+    let a = (start e.before).args in
+    omega (arith, length_lent (bytes e.before) (a.t * (a.i - 1)), lies e.before, room e.before, (start e.before).requires.0.size, one e.before)
 
 returns-3 : tie.Need-returns
 returns-3 c =
-    let e = c.before.before in
-    let s = start e in
-    c.bit_at.ensures ∙ old_bit s.args.m s.args.t s.args.i s.args.new (bytes e) s.requires.0 e.before.if-i-eq0.false s.requires.1 e.if-new-m.false
+    let e = c in
+    let s = start e.before.before in
+    c.bit_at.ensures ∙ old_bit s.args.m s.args.t s.args.i s.args.new (bytes e.before.before) s.requires.0 e.if-i-eq0.false s.requires.1 e.if-new-m.false
 
 pub descends_spec : {M : Type 1} → statement M
 descends_spec =

@@ -19,7 +19,7 @@ good s = whole s.args.m s.args.batch.now s.args.levels.now s.args.edges.now s.re
 bytes-for-requires : tie.Need-bytes_for-t-requires
 bytes-for-requires c κs = omega (arith, (good c.before.before.before).batch.narrow)
 
-t-is : (b : tie.After-bytes_for-t) → b.bytes_for-t.result ≡ key_bytes b.before.before.before.before.args.m
+t-is : (b : tie.After-bytes_for-t) → b.bytes_for-t.result ≡ key_bytes b.args.m
 unfolding key_bytes
 t-is b = b.bytes_for-t.ensures.0
 
@@ -32,10 +32,10 @@ div-mark-all c = omega (arith, t-is c.before.before.before.before, (good c.befor
 
 mark-all-requires : tie.Need-mark_all-requires
 mark-all-requires c κs =
-    let v = c.before.before.before.before in
-    let b = v.before.before in
-    let s = b.before.before.before.before in
-    subst (λ t. Unmarked s.args.m t (length s.args.batch.now / t) s.args.batch.now s.args.levels.now v.clear.new.b) (sym (t-is b))
+    let v = c in
+    let b = v in
+    let s = b in
+    subst (λ t. Unmarked s.args.m t (length s.args.batch.now / t) s.args.batch.now s.args.levels.now v.clear.new.b) (sym (t-is b.before.before.before.before.before.before))
     (unmarked s.args.m s.args.batch.now s.args.levels.now s.args.edges.now s.requires v.clear.new.b v.clear.ensures)
 
 same_length : tie.Need-shape_of-levels
@@ -46,13 +46,13 @@ same-length-2 c = search rules
 
 returns : tie.Need-returns
 returns c =
-    let k = c.before.before.before.before in
-    let v = k.before.before.before.before.before in
-    let b = v.before.before in
-    let s = b.before.before.before.before in
+    let k = c in
+    let v = k in
+    let b = v in
+    let s = b in
     let m : ℕ = s.args.m in
     let l : Bytes = s.args.batch.now in
-    filled m l k.mark_all.new.edges (k.mark_all.ensures ∙ ap (λ t. pack_bits (edges m (set_below (key m l) (length l / t)))) (t-is b))
+    filled m l k.mark_all.new.edges (k.mark_all.ensures ∙ ap (λ t. pack_bits (edges m (set_below (key m l) (length l / t)))) (t-is b.before.before.before.before.before.before.before.before.before.before.before))
 
 pub fill_spec : {M : Type 1} → statement M
 fill_spec =

@@ -9,7 +9,7 @@ cast-result : tie.Need-overflow_cast-result
 cast-result c = record { fits = omega (arith, leading_le 8 (bit_xor c.args.p c.args.q)) }
 
 returns : tie.Need-returns
-returns c = first_difference c.args.p c.args.q (omega (arith, c.well-formed)) (omega (arith, c.well-formed)) c.requires
+returns c = first_difference c.args.p c.args.q (omega (arith, c.well_formed)) (omega (arith, c.well_formed)) c.requires
 
 pub first_difference_spec : {M : Type 1} → statement M
 first_difference_spec = tie.close (tie.spec cast-result returns)

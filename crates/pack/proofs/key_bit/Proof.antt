@@ -27,7 +27,7 @@ cast-result c = search rules
 
 returns : tie.Need-returns
 returns c =
-    let a = c.before.before.before.args in
+    let a = c.args in
     byte_bit c.bit_at.result ∙ ap bit (c.bit_at.ensures ∙ ap (λ x. bit_at x a.e) (lent_is a.batch.now (a.t * a.i)))
 
 pub key_bit_spec : {M : Type 1} → statement M

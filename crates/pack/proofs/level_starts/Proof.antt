@@ -23,17 +23,17 @@ module _ (w : tie.In-loop-d invariant-loop decreases-loop) where
   at = w.before
 
   -- the records of this level, and those with them
-  size-here : at.loop-d.size + get_or at.loop-d.levels at.loop-d.d 0 ≡ get_or (running at.before.args.levels.now at.before.args.m) at.loop-d.d 0
+  size-here : at.loop-d.size + get_or at.loop-d.levels at.loop-d.d 0 ≡ get_or (running at.args.levels.now at.args.m) at.loop-d.d 0
   size-here =
-      let l = at.before.args.levels.now in
+      let l = at.args.levels.now in
       let d = at.loop-d.d in
-      omega (arith, running_at l at.before.args.m d w.loop-d-test.true, sum_more l d, at.loop-d.invariant.3, at.loop-d.invariant.6 d (omega arith))
+      omega (arith, running_at l at.args.m d w.loop-d-test.true, sum_more l d, at.loop-d.invariant.3, at.loop-d.invariant.6 d (omega arith))
 
-  with-level : at.loop-d.records + (at.loop-d.size + get_or at.loop-d.levels at.loop-d.d 0) ≡ sum_below (running at.before.args.levels.now at.before.args.m) (at.loop-d.d + 1)
-  with-level = omega (arith, sum_more (running at.before.args.levels.now at.before.args.m) at.loop-d.d, at.loop-d.invariant.4, size-here)
+  with-level : at.loop-d.records + (at.loop-d.size + get_or at.loop-d.levels at.loop-d.d 0) ≡ sum_below (running at.args.levels.now at.args.m) (at.loop-d.d + 1)
+  with-level = omega (arith, sum_more (running at.args.levels.now at.args.m) at.loop-d.d, at.loop-d.invariant.4, size-here)
 
-  few : get_or (running at.before.args.levels.now at.before.args.m) at.loop-d.d 0 < 2 ^ 63
-  few = at.before.requires.1 at.loop-d.d w.loop-d-test.true
+  few : get_or (running at.args.levels.now at.args.m) at.loop-d.d 0 < 2 ^ 63
+  few = at.requires.1 at.loop-d.d w.loop-d-test.true
 
 loop-holds : tie.Need-loop-d-init invariant-loop decreases-loop
 loop-holds c =
@@ -41,7 +41,7 @@ loop-holds c =
     (omega arith, omega arith, refl, sym (sum_none l), sym (sum_none (running l c.args.m)), λ x h. absurd (omega arith), λ x h. refl)
 
 mul-size : tie.Need-offset_bounds-levels-d invariant-loop decreases-loop
-mul-size c = omega (arith, c.before.before.well-formed)
+mul-size c = omega (arith, c.well_formed)
 
 slice-read-size : tie.Need-bounds-levels-d invariant-loop decreases-loop
 slice-read-size c = omega arith
@@ -50,27 +50,27 @@ add-size : tie.Need-overflow_add-size invariant-loop decreases-loop
 add-size c = record { fits = omega (arith, size-here c.before, few c.before) }
 
 mul-levels : tie.Need-offset_bounds-levels-d-in-loop-d invariant-loop decreases-loop
-mul-levels c = omega (arith, c.before.before.before.well-formed)
+mul-levels c = omega (arith, c.well_formed)
 
 slice-write-levels : tie.Need-bounds-levels-d-in-loop-d invariant-loop decreases-loop
 slice-write-levels c = omega arith
 
 add-records : tie.Need-overflow_add-records invariant-loop decreases-loop
-add-records c = let w = c.before in record { fits = omega (arith, (at w).loop-d.invariant.1, size-here w, few w) }
+add-records c = let w = c in record { fits = omega (arith, (at w.before).loop-d.invariant.1, size-here w.before, few w.before) }
 
 same_length : tie.Need-shape_of-levels-then-records-gt-MAX_RECORDS invariant-loop decreases-loop
 same_length c = search rules
 
 returns : tie.Need-returns-then-records-gt-MAX_RECORDS invariant-loop decreases-loop
 returns c =
-    let w = c.before.before in
-    let h = at w in
-    let l = running h.before.args.levels.now h.before.args.m in
+    let w = c in
+    let h = at w.before.before in
+    let l = running h.args.levels.now h.args.m in
     let o = c.if-records-gt-MAX_RECORDS.true in
     record {
       total = λ q. absurd (omega arith);
       each = λ q. absurd (omega arith);
-      over = λ q. omega (arith, with-level w, sum_le l (h.loop-d.d + 1) h.before.args.m (omega (arith, w.loop-d-test.true)));
+      over = λ q. omega (arith, with-level w.before.before, sum_le l (h.loop-d.d + 1) h.args.m (omega (arith, w.loop-d-test.true)));
     }
 
 add-d : tie.Need-overflow_add-d invariant-loop decreases-loop
@@ -81,19 +81,19 @@ loop-less c = omega arith
 
 loop-again : tie.Need-loop-d-preserved invariant-loop decreases-loop
 loop-again c =
-    let w = c.before.before in
-    let h = at w in
-    let l = h.before.args.levels.now in
+    let w = c in
+    let h = at w.before.before in
+    let l = h.args.levels.now in
     let d = h.loop-d.d in
     let v = h.loop-d.records in (
       omega (arith, w.loop-d-test.true),
       c.if-records-gt-MAX_RECORDS.false,
       simp length-set h.loop-d.invariant.2,
-      size-here w ∙ running_at l h.before.args.m d w.loop-d-test.true,
-      with-level w,
-      below_more (λ x. get_or (set h.loop-d.levels d v) x 0 ≡ sum_below (running l h.before.args.m) x) d
+      size-here w.before.before ∙ running_at l h.args.m d w.loop-d-test.true,
+      with-level w.before.before,
+      below_more (λ x. get_or (set h.loop-d.levels d v) x 0 ≡ sum_below (running l h.args.m) x) d
           (λ x q. get_or-set_other h.loop-d.levels d x v 0 (λ z. omega arith) ∙ h.loop-d.invariant.5 x q)
-          (get_or-set_same h.loop-d.levels d v 0 (omega (arith, h.loop-d.invariant.2, h.before.requires.0, w.loop-d-test.true)) ∙ h.loop-d.invariant.4),
+          (get_or-set_same h.loop-d.levels d v 0 (omega (arith, h.loop-d.invariant.2, h.requires.0, w.loop-d-test.true)) ∙ h.loop-d.invariant.4),
       λ x q. get_or-set_other h.loop-d.levels d x v 0 (λ z. omega arith) ∙ h.loop-d.invariant.6 x (omega arith),
     )
 
@@ -102,8 +102,8 @@ same-length-2 c = search rules
 
 returns-2 : tie.Need-returns invariant-loop decreases-loop
 returns-2 c =
-    let h = c.before in
-    let z : h.loop-d.d ≡ h.before.args.m = omega (arith, c.loop-d-test.false, h.loop-d.invariant.0) in
+    let h = c in
+    let z : h.loop-d.d ≡ h.args.m = omega (arith, c.loop-d-test.false, h.loop-d.invariant.0) in
     record {
       total = λ q. rw z at h.loop-d.invariant.4;
       each = λ q e l. h.loop-d.invariant.5 e (omega arith);

@@ -11,7 +11,7 @@ use Rattle.pack.proofs.mark_all.Tie as tie
 -- the level from which on the keys are apart is known
 module _ (a : tie.After-apart_from-top) where
   abbrev masked : tie.After-masks-masks
-  masked = a.before.before.before
+  masked = a.before.before
 
   abbrev start : tie.Start
   start = masked.before.before.before.before
@@ -30,11 +30,11 @@ slice-aggregate-mark-keys c = search rules
 
 mark-keys-requires : tie.Need-mark_keys-requires
 mark-keys-requires c κs =
-    let w = c.before.before.before.before in
-    let s = w.before.before.before.before in
+    let w = c in
+    let s = w in
     let g = s.args in
     let k = s.requires.keys in
-    ((k, none_apart g.m g.t g.n g.batch.now g.cursors-1.now k), (none_marked g.m g.t g.n g.batch.now g.cursors-1.now k g.edges-1.now s.requires.clear, w.masks-masks.ensures))
+    ((k, none_apart g.m g.t g.n g.batch.now g.cursors.now k), (none_marked g.m g.t g.n g.batch.now g.cursors.now k g.edges.now s.requires.clear, w.masks-masks.ensures))
 
 same_length : tie.Need-shape_of-cursors-then-n-lt-FEW_KEYS
 same_length c = search rules
@@ -47,25 +47,25 @@ returns c = search rules
 
 apart-from-requires : tie.Need-apart_from-top-requires
 apart-from-requires c κs =
-    let s = c.before.before.before.before.before.before in
+    let s = c in
     let g = s.args in
     let k = s.requires.keys in
-    (k.long, starts_few g.m g.t g.n g.batch.now g.cursors-1.now k, omega (arith, few_keys g.m g.t g.n g.batch.now k.batch, s.well-formed))
+    (k.long, starts_few g.m g.t g.n g.batch.now g.cursors.now k, omega (arith, few_keys g.m g.t g.n g.batch.now k.batch, s.well_formed))
 
 slice-aggregate-mark-levels : tie.Need-slice_bounds-mark_levels-end
 slice-aggregate-mark-levels c = search rules
 
 mark-levels-requires : tie.Need-mark_levels-requires
-mark-levels-requires c κs = let a = c.before.before.before in ((start a).requires, apart a, (masked a).masks-masks.ensures)
+mark-levels-requires c κs = let a = c in ((start a.before.before).requires, apart a.before.before, (masked a.before.before).masks-masks.ensures)
 
 slice-aggregate-mark-keys-2 : tie.Need-slice_bounds-mark_keys-end-2
 slice-aggregate-mark-keys-2 c = search rules
 
 mark-keys-requires-2 : tie.Need-mark_keys-requires-2
 mark-keys-requires-2 c κs =
-    let v = c.before.before.before.before.before in
-    let a = v.before.before.before.before in
-    (((start a).requires.keys, apart a), (v.mark_levels.ensures, (masked a).masks-masks.ensures))
+    let v = c in
+    let a = v in
+    (((start a.before.before.before.before.before.before.before.before).requires.keys, apart a.before.before.before.before.before.before.before.before), (v.mark_levels.ensures, (masked a.before.before.before.before.before.before.before.before).masks-masks.ensures))
 
 same-length-3 : tie.Need-shape_of-cursors
 same-length-3 c = search rules

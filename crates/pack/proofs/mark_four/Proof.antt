@@ -27,11 +27,11 @@ module _ (k : tie.After-key_bit-s) where
   low : (j : ℕ) → b j ≤ 1
   low j = bit_le (bit_at (drop (start.args.t * j) start.args.batch.now) start.args.e)
 
-  bits : (k.before.before.before.key_bit-p.result ≤ 1) × (k.before.before.key_bit-q.result ≤ 1) × (k.before.key_bit-r.result ≤ 1) × (k.key_bit-s.result ≤ 1)
+  bits : (k.key_bit-p.result ≤ 1) × (k.key_bit-q.result ≤ 1) × (k.key_bit-r.result ≤ 1) × (k.key_bit-s.result ≤ 1)
   bits = (
-    omega (arith, k.before.before.before.key_bit-p.ensures, low i),
-    omega (arith, k.before.before.key_bit-q.ensures, low (i + 1)),
-    omega (arith, k.before.key_bit-r.ensures, low (i + 2)),
+    omega (arith, k.key_bit-p.ensures, low i),
+    omega (arith, k.key_bit-q.ensures, low (i + 1)),
+    omega (arith, k.key_bit-r.ensures, low (i + 2)),
     omega (arith, k.key_bit-s.ensures, low (i + 3)),
   )
 
@@ -49,13 +49,13 @@ module _ (k : tie.After-key_bit-s) where
       let z : o (i + j) % 8 ≡ 2 * j + v = unfold row_offset in omega (arith, low (i + j), start.requires.2, e) in
       start.requires.1.rule (2 * j + v) (omega (arith, low (i + j), e)) ∙ rw z
 
-  first-is : k.before.before.before.key_bit-p.result ≡ b (i + 0)
-  first-is = let z : i + 0 ≡ i = omega arith in rw z k.before.before.before.key_bit-p.ensures
+  first-is : k.key_bit-p.result ≡ b (i + 0)
+  first-is = let z : i + 0 ≡ i = omega arith in rw z k.key_bit-p.ensures
 
-  first-mask : get_or start.args.masks.now k.before.before.before.key_bit-p.result 0 ≡ 2 ^ (7 - o (i + 0) % 8)
+  first-mask : get_or start.args.masks.now k.key_bit-p.result 0 ≡ 2 ^ (7 - o (i + 0) % 8)
   first-mask =
-      let z : k.before.before.before.key_bit-p.result ≡ 2 * 0 + k.before.before.before.key_bit-p.result = omega arith in
-      ap (λ x. get_or start.args.masks.now x 0) z ∙ mask_is 0 k.before.before.before.key_bit-p.result (omega arith) first-is
+      let z : k.key_bit-p.result ≡ 2 * 0 + k.key_bit-p.result = omega arith in
+      ap (λ x. get_or start.args.masks.now x 0) z ∙ mask_is 0 k.key_bit-p.result (omega arith) first-is
 
 add-record : tie.Need-overflow_add-record
 add-record c = search rules
@@ -85,25 +85,25 @@ slice-read-x : tie.Need-bounds-edges-at
 slice-read-x c = search rules
 
 shared-slice-read-edges : tie.Need-bounds-masks-p
-shared-slice-read-edges c = let k = c.before.before in let b = bits k in omega (arith, (start k).requires.1.size)
+shared-slice-read-edges c = let k = c in let b = bits k.before.before in omega (arith, (start k.before.before).requires.1.size)
 
 add-edges : tie.Need-overflow_add-edges
-add-edges c = let k = c.before.before in let b = bits k in record { fits = omega arith }
+add-edges c = let k = c in let b = bits k.before.before in record { fits = omega arith }
 
 shared-slice-read-edges-2 : tie.Need-bounds-masks-q
-shared-slice-read-edges-2 c = let k = c.before.before.before in let b = bits k in omega (arith, (start k).requires.1.size)
+shared-slice-read-edges-2 c = let k = c in let b = bits k.before.before.before in omega (arith, (start k.before.before.before).requires.1.size)
 
 add-edges-2 : tie.Need-overflow_add-edges-2
-add-edges-2 c = let k = c.before.before.before in let b = bits k in record { fits = omega arith }
+add-edges-2 c = let k = c in let b = bits k.before.before.before in record { fits = omega arith }
 
 shared-slice-read-edges-3 : tie.Need-bounds-masks-r
-shared-slice-read-edges-3 c = let k = c.before.before.before.before in let b = bits k in omega (arith, (start k).requires.1.size)
+shared-slice-read-edges-3 c = let k = c in let b = bits k.before.before.before.before in omega (arith, (start k.before.before.before.before).requires.1.size)
 
 add-edges-3 : tie.Need-overflow_add-edges-3
-add-edges-3 c = let k = c.before.before.before.before in let b = bits k in record { fits = omega arith }
+add-edges-3 c = let k = c in let b = bits k.before.before.before.before in record { fits = omega arith }
 
 shared-slice-read-edges-4 : tie.Need-bounds-masks-s
-shared-slice-read-edges-4 c = let k = c.before.before.before.before.before in let b = bits k in omega (arith, (start k).requires.1.size)
+shared-slice-read-edges-4 c = let k = c in let b = bits k.before.before.before.before.before in omega (arith, (start k.before.before.before.before.before).requires.1.size)
 
 slice-write-edges : tie.Need-bounds-edges-at-2
 slice-write-edges c = search rules
@@ -113,12 +113,12 @@ same_length c = search rules
 
 returns : tie.Need-returns
 returns c =
-    let k = c.before.before.before.before.before in
-    bits_four (at k) (start k).args.edges.now (omega (arith, (start k).requires.0.fit)) (o k) (i k) _ _ _ _ (byte-is k)
-    (first-mask k)
-    (mask_is k 1 k.before.before.key_bit-q.result (omega arith) k.before.before.key_bit-q.ensures)
-    (mask_is k 2 k.before.key_bit-r.result (omega arith) k.before.key_bit-r.ensures)
-    (mask_is k 3 k.key_bit-s.result (omega arith) k.key_bit-s.ensures)
+    let k = c in
+    bits_four (at k.before.before.before.before.before) (start k.before.before.before.before.before).args.edges.now (omega (arith, (start k.before.before.before.before.before).requires.0.fit)) (o k.before.before.before.before.before) (i k.before.before.before.before.before) _ _ _ _ (byte-is k.before.before.before.before.before)
+    (first-mask k.before.before.before.before.before)
+    (mask_is k.before.before.before.before.before 1 k.key_bit-q.result (omega arith) k.key_bit-q.ensures)
+    (mask_is k.before.before.before.before.before 2 k.key_bit-r.result (omega arith) k.key_bit-r.ensures)
+    (mask_is k.before.before.before.before.before 3 k.key_bit-s.result (omega arith) k.key_bit-s.ensures)
 
 pub mark_four_spec : {M : Type 1} → statement M
 mark_four_spec =

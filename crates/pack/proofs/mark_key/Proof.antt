@@ -34,7 +34,7 @@ module _ (w : tie.In-loop-e invariant-loop decreases-loop) where
   above = head.before.before.before
 
   abbrev start : tie.Start invariant-loop decreases-loop
-  start = above.before.before.before.before.before.before.before.before
+  start = above.before.before.before.before.before.before.before
 
   abbrev at : ℕ
   at = head.loop-e.e
@@ -56,8 +56,8 @@ module _ (w : tie.In-loop-e invariant-loop decreases-loop) where
 
 returns : tie.Need-returns-then-m-new invariant-loop decreases-loop
 returns c =
-    let a = c.before.before.before.before.before.args in
-    (record { long = refl; each = λ e l. rw (lt-leb a.new e (omega (arith, c.if-m-new.true))) (omega arith) }, bits_past (offset_of a.cursors.now a.new a.key.now) (a.new - 1) a.m a.edges-1.now (omega (arith, c.if-m-new.true)))
+    let a = c.args in
+    (record { long = refl; each = λ e l. rw (lt-leb a.new e (omega (arith, c.if-m-new.true))) (omega arith) }, bits_past (offset_of a.cursors.now a.new a.key.now) (a.new - 1) a.m a.edges.now (omega (arith, c.if-m-new.true)))
 
 -- the level above has a record, and the key goes on with 1 there
 up : (s : tie.Start invariant-loop decreases-loop) → s.args.new ≤ s.args.m → 0 < s.args.new
@@ -68,37 +68,37 @@ up s h p =
 
 mark-above-requires : tie.Need-mark_above-requires invariant-loop decreases-loop
 mark-above-requires c κs =
-    let e = c.before.before in
-    let s = e.before.before.before.before.before in
-    (λ p. up s e.if1.false p, s.requires.0.small, s.requires.1)
+    let e = c in
+    let s = e in
+    (λ p. up s.before.before.before.before.before.before e.if-m-new.false p, s.requires.0.small, s.requires.1)
 
 loop-holds : tie.Need-loop-e-init invariant-loop decreases-loop
 loop-holds c =
-    let e = c.before.before.before.before.before in
-    let a = e.before.before.before.before.before.args in
-    (omega arith, e.if1.false, refl, refl, λ x l. rw (lt-leb a.new x l) (omega arith), λ x l. refl, bits_past (offset_of a.cursors.now a.new a.key.now) a.new a.new _ (omega arith))
+    let e = c in
+    let a = e.args in
+    (omega arith, e.if-m-new.false, refl, refl, λ x l. rw (lt-leb a.new x l) (omega arith), λ x l. refl, bits_past (offset_of a.cursors.now a.new a.key.now) a.new a.new _ (omega arith))
 
 mul-record : tie.Need-offset_bounds-cursors-e invariant-loop decreases-loop
-mul-record c = omega (arith, (start c).well-formed, (start c).requires.0.long, c.loop-e-test.true)
+mul-record c = omega (arith, (start c).well_formed, (start c).requires.0.long, c.loop-e-test.true)
 
 slice-read-record : tie.Need-bounds-cursors-e invariant-loop decreases-loop
-slice-read-record c = let w = c.before in omega (arith, w.before.loop-e.invariant.2, (start w).requires.0.long, w.loop-e-test.true)
+slice-read-record c = let w = c in omega (arith, w.loop-e.invariant.2, (start w.before).requires.0.long, w.loop-e-test.true)
 
 add-cursors : tie.Need-overflow_add-cursors invariant-loop decreases-loop
 add-cursors c = record { fits = omega (arith, few c.before) }
 
 mul-cursors : tie.Need-offset_bounds-cursors-e-in-loop-e invariant-loop decreases-loop
-mul-cursors c = let w = c.before in omega (arith, (start w).well-formed, (start w).requires.0.long, w.loop-e-test.true)
+mul-cursors c = let w = c in omega (arith, (start w.before).well_formed, (start w.before).requires.0.long, w.loop-e-test.true)
 
 slice-write-cursors : tie.Need-bounds-cursors-e-in-loop-e invariant-loop decreases-loop
-slice-write-cursors c = let w = c.before in omega (arith, w.before.loop-e.invariant.2, (start w).requires.0.long, w.loop-e-test.true)
+slice-write-cursors c = let w = c in omega (arith, w.loop-e.invariant.2, (start w.before).requires.0.long, w.loop-e-test.true)
 
 mul-o : tie.Need-overflow_mul-o invariant-loop decreases-loop
 mul-o c = record { fits = omega (arith, few c.before) }
 
 bit-at-requires : tie.Need-bit_at-requires invariant-loop decreases-loop
 unfolding key_bytes started
-bit-at-requires c κs = let w = c.before in omega (arith, (start w).requires.0.far, w.loop-e-test.true)
+bit-at-requires c κs = let w = c in omega (arith, (start w.before).requires.0.far, w.loop-e-test.true)
 
 cast-o : tie.Need-overflow_cast-o invariant-loop decreases-loop
 cast-o c = tt
@@ -108,15 +108,15 @@ add-o c = record { fits = omega (arith, few c.before.before, byte_bit c.bit_at.r
 
 set-bit-requires : tie.Need-set_bit-requires invariant-loop decreases-loop
 set-bit-requires c κs =
-    let b = c.before in
-    let w = b.before.before in
-    (omega (arith, low w, (head w).loop-e.invariant.3, (above w).mark_above.auto.edges, byte_bit b.bit_at.result, bit_le b.bit_at.result), (start w).requires.1)
+    let b = c in
+    let w = b in
+    (omega (arith, low w.before.before.before, (head w.before.before.before).loop-e.invariant.3, (above w.before.before.before).mark_above.auto.edges, byte_bit b.bit_at.result, bit_le b.bit_at.result), (start w.before.before.before).requires.1)
 
 -- the code's offset
-offset-is : (b : tie.After-bit_at invariant-loop decreases-loop) → let w = b.before.before in let a = (start w).args in
-    2 * next w + bool_byte b.bit_at.result ≡ offset_of a.cursors.now a.new a.key.now (at w)
+offset-is : (b : tie.After-bit_at invariant-loop decreases-loop) → let w = b in let a = (start w.before.before).args in
+    2 * next w.before.before + bool_byte b.bit_at.result ≡ offset_of a.cursors.now a.new a.key.now (at w.before.before)
 unfolding offset_of
-offset-is b = let w = b.before.before in omega (arith, next-is w, newer w, byte_bit b.bit_at.result, ap bit b.bit_at.ensures)
+offset-is b = let w = b in omega (arith, next-is w.before.before, newer w.before.before, byte_bit b.bit_at.result, ap bit b.bit_at.ensures)
 
 add-e : tie.Need-overflow_add-e invariant-loop decreases-loop
 add-e c = search rules
@@ -126,23 +126,23 @@ loop-less c = search rules
 
 loop-again : tie.Need-loop-e-preserved invariant-loop decreases-loop
 loop-again c =
-    let d = c.before.before in
-    let b = d.before.before in
-    let w = b.before.before in
-    let h = head w in
-    let a = (start w).args in
+    let d = c in
+    let b = d in
+    let w = b in
+    let h = head w.before.before.before.before.before.before in
+    let a = (start w.before.before.before.before.before.before).args in
     let l = h.loop-e.cursors in
-    let v = next w + 1 in (
+    let v = next w.before.before.before.before.before.before + 1 in (
       omega (arith, h.loop-e.invariant.0),
       omega (arith, w.loop-e-test.true),
       simp length-set h.loop-e.invariant.2,
       d.set_bit.auto.b ∙ h.loop-e.invariant.3,
-      below_more (λ x. get_or (set l (at w) v) x 0 ≡ get_or a.cursors.now x 0 + bit (leb a.new x)) (at w)
-          (λ x q. get_or-set_other l (at w) x v 0 (λ z. omega arith) ∙ h.loop-e.invariant.4 x q)
-          (get_or-set_same l (at w) v 0 (omega (arith, h.loop-e.invariant.2, (start w).requires.0.long, w.loop-e-test.true)) ∙ omega (arith, next-is w, newer w)),
-      λ x q. get_or-set_other l (at w) x v 0 (λ z. omega arith) ∙ h.loop-e.invariant.5 x (omega arith),
-      bits_more (offset_of a.cursors.now a.new a.key.now) a.new (at w) _ h.loop-e.edges d.set_bit.new.b h.loop-e.invariant.0 h.loop-e.invariant.6
-          (d.set_bit.ensures ∙ ap (set_bit h.loop-e.edges) (offset-is b)),
+      below_more (λ x. get_or (set l (at w.before.before.before.before.before.before) v) x 0 ≡ get_or a.cursors.now x 0 + bit (leb a.new x)) (at w.before.before.before.before.before.before)
+          (λ x q. get_or-set_other l (at w.before.before.before.before.before.before) x v 0 (λ z. omega arith) ∙ h.loop-e.invariant.4 x q)
+          (get_or-set_same l (at w.before.before.before.before.before.before) v 0 (omega (arith, h.loop-e.invariant.2, (start w.before.before.before.before.before.before).requires.0.long, w.loop-e-test.true)) ∙ omega (arith, next-is w.before.before.before.before.before.before, newer w.before.before.before.before.before.before)),
+      λ x q. get_or-set_other l (at w.before.before.before.before.before.before) x v 0 (λ z. omega arith) ∙ h.loop-e.invariant.5 x (omega arith),
+      bits_more (offset_of a.cursors.now a.new a.key.now) a.new (at w.before.before.before.before.before.before) _ h.loop-e.edges d.set_bit.new.b h.loop-e.invariant.0 h.loop-e.invariant.6
+          (d.set_bit.ensures ∙ ap (set_bit h.loop-e.edges) (offset-is b.before.before.before.before)),
     )
 
 same_length : tie.Need-shape_of-cursors invariant-loop decreases-loop
@@ -153,16 +153,16 @@ same-length-2 c = search rules
 
 returns-2 : tie.Need-returns invariant-loop decreases-loop
 returns-2 c =
-    let h = c.before in
-    let k = h.before.before.before in
-    let e = k.before.before.before in
-    let s = e.before.before.before.before.before in
+    let h = c in
+    let k = h in
+    let e = k in
+    let s = e in
     let a = s.args in
     let z : h.loop-e.e ≡ a.m = omega (arith, c.loop-e-test.false, h.loop-e.invariant.1) in
     let o = offset_of a.cursors.now a.new a.key.now in (
       record { long = h.loop-e.invariant.2; each = λ e l. h.loop-e.invariant.4 e (omega arith) },
-      rw z at h.loop-e.invariant.6 ∙ bits_all o a.new a.m a.edges-1.now _ e.if1.false
-          (k.mark_above.ensures ∙ above_is a.cursors.now a.new a.key.now a.edges-1.now (λ p. ((up s e.if1.false p).1, s.requires.0.later p e.if1.false))),
+      rw z at h.loop-e.invariant.6 ∙ bits_all o a.new a.m a.edges.now _ e.if1.false
+          (k.mark_above.ensures ∙ above_is a.cursors.now a.new a.key.now a.edges.now (λ p. ((up s.before.before.before.before.before.before.before.before.before.before.before e.if1.false p).1, s.requires.0.later p e.if1.false))),
     )
 
 pub mark_key_spec : {M : Type 1} → statement M

@@ -72,7 +72,7 @@ module _ (w : tie.In-loop-i invariant-loop decreases-loop) where
 
 loop-holds : tie.Need-loop-i-init invariant-loop decreases-loop
 loop-holds c =
-    let s = c.before.before.before.before in
+    let s = c in
     let m = s.args.m in
     let g = key m s.args.batch.now in
     let S = set_below g s.args.n in (
@@ -87,7 +87,7 @@ first-new-requires : tie.Need-first_new-new-requires invariant-loop decreases-lo
 first-new-requires c κs = there c
 
 mul_at : tie.Need-overflow_mul-at invariant-loop decreases-loop
-mul_at c = record { fits = omega (arith, room c.before, (start c.before).good) }
+mul_at c = record { fits = omega (arith, room c.before, (start c.before).well_formed) }
 
 sub-mark-key : tie.Need-slice_bounds-mark_key-count invariant-loop decreases-loop
 sub-mark-key c = omega (arith, room c.before)
@@ -100,14 +100,14 @@ part-mark-key-end c = search rules
 
 mark-key-requires : tie.Need-mark_key-requires invariant-loop decreases-loop
 mark-key-requires c κs =
-    let g = c.before.before.before in
-    let w = g.before in
-    let s = start w in
+    let g = c in
+    let w = g in
+    let s = start w.before.before.before.before in
     let k = s.requires.0.0 in (
-      room_mark (m w) (n w) (f w) k.rising (top w) (i w) g.first_new-new.result (head w).loop-i.cursors s.requires.0.1.most w.loop-i-test.true (head w).loop-i.invariant.3 g.first_new-new.ensures _ (head w).loop-i.edges
-          (key_lent (m w) s.args.t (i w) (bytes w) (there w))
-          (omega (arith, room w, k.batch.size, length_lent (bytes w) (s.args.t * i w)))
-          (omega (arith, k.long, (head w).loop-i.invariant.1)) k.few (long w),
+      room_mark (m w.before.before.before.before) (n w.before.before.before.before) (f w.before.before.before.before) k.rising (top w.before.before.before.before) (i w.before.before.before.before) g.first_new-new.result (head w.before.before.before.before).loop-i.cursors s.requires.0.1.most w.loop-i-test.true (head w.before.before.before.before).loop-i.invariant.3 g.first_new-new.ensures _ (head w.before.before.before.before).loop-i.edges
+          (key_lent (m w.before.before.before.before) s.args.t (i w.before.before.before.before) (bytes w.before.before.before.before) (there w.before.before.before.before))
+          (omega (arith, room w.before.before.before.before, k.batch.size, length_lent (bytes w.before.before.before.before) (s.args.t * i w.before.before.before.before)))
+          (omega (arith, k.long, (head w.before.before.before.before).loop-i.invariant.1)) k.few (long w.before.before.before.before),
       s.requires.1.1,
     )
 
@@ -119,20 +119,20 @@ loop-less c = search rules
 
 loop-again : tie.Need-loop-i-preserved invariant-loop decreases-loop
 loop-again c =
-    let k = c.before.before.before.before in
-    let g = k.before.before.before.before in
-    let w = g.before in
-    let h = head w in
-    let s = start w in
+    let k = c in
+    let g = k in
+    let w = g in
+    let h = head w.before.before.before.before.before.before.before.before.before in
+    let s = start w.before.before.before.before.before.before.before.before.before in
     let a = s.requires.0 in (
       omega (arith, w.loop-i-test.true),
       k.mark_key.auto.cursors ∙ h.loop-i.invariant.1,
       k.mark_key.auto.edges ∙ h.loop-i.invariant.2,
-      counted_more (m w) (n w) (base (m w) (set_below (f w) (n w))) (f w) a.0.rising (top w) (i w) g.first_new-new.result h.loop-i.cursors k.mark_key.new.cursors
+      counted_more (m w.before.before.before.before.before.before.before.before.before) (n w.before.before.before.before.before.before.before.before.before) (base (m w.before.before.before.before.before.before.before.before.before) (set_below (f w.before.before.before.before.before.before.before.before.before) (n w.before.before.before.before.before.before.before.before.before))) (f w.before.before.before.before.before.before.before.before.before) a.0.rising (top w.before.before.before.before.before.before.before.before.before) (i w.before.before.before.before.before.before.before.before.before) g.first_new-new.result h.loop-i.cursors k.mark_key.new.cursors
           a.1.most w.loop-i-test.true g.first_new-new.ensures k.mark_key.ensures.0 h.loop-i.invariant.3,
-      marks (m w) (n w) (f w) a.0.rising (top w) (i w) g.first_new-new.result h.loop-i.cursors a.1.most w.loop-i-test.true h.loop-i.invariant.3 g.first_new-new.ensures _ h.loop-i.edges k.mark_key.new.edges (set_below (f w) (n w))
-          (key_lent (m w) s.args.t (i w) (bytes w) (there w))
-          (omega (arith, g.first_new-new.ensures, new_top (m w) s.args.t (n w) (bytes w) s.args.cursors.now a.0 (top w) a.1 (i w) w.loop-i-test.true)) h.loop-i.invariant.4 k.mark_key.ensures.1,
+      marks (m w.before.before.before.before.before.before.before.before.before) (n w.before.before.before.before.before.before.before.before.before) (f w.before.before.before.before.before.before.before.before.before) a.0.rising (top w.before.before.before.before.before.before.before.before.before) (i w.before.before.before.before.before.before.before.before.before) g.first_new-new.result h.loop-i.cursors a.1.most w.loop-i-test.true h.loop-i.invariant.3 g.first_new-new.ensures _ h.loop-i.edges k.mark_key.new.edges (set_below (f w.before.before.before.before.before.before.before.before.before) (n w.before.before.before.before.before.before.before.before.before))
+          (key_lent (m w.before.before.before.before.before.before.before.before.before) s.args.t (i w.before.before.before.before.before.before.before.before.before) (bytes w.before.before.before.before.before.before.before.before.before) (there w.before.before.before.before.before.before.before.before.before))
+          (omega (arith, g.first_new-new.ensures, new_top (m w.before.before.before.before.before.before.before.before.before) s.args.t (n w.before.before.before.before.before.before.before.before.before) (bytes w.before.before.before.before.before.before.before.before.before) s.args.cursors.now a.0 (top w.before.before.before.before.before.before.before.before.before) a.1 (i w.before.before.before.before.before.before.before.before.before) w.loop-i-test.true)) h.loop-i.invariant.4 k.mark_key.ensures.1,
     )
 
 same_length : tie.Need-shape_of-cursors invariant-loop decreases-loop
@@ -143,8 +143,8 @@ same-length-2 c = search rules
 
 returns : tie.Need-returns invariant-loop decreases-loop
 returns c =
-    let h = c.before in
-    let s = h.before.before.before.before.before in
+    let h = c in
+    let s = h in
     let g = key s.args.m s.args.batch.now in
     let S = set_below g s.args.n in
     let z : h.loop-i.i ≡ s.args.n = omega (arith, c.loop-i-test.false, h.loop-i.invariant.0) in

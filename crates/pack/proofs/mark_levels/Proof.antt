@@ -58,7 +58,7 @@ module _ (w : tie.In-loop-e invariant-loop decreases-loop) where
 
 loop-holds : tie.Need-loop-e-init invariant-loop decreases-loop
 loop-holds c =
-    let s = c.before.before.before.before in
+    let s = c in
     let m = s.args.m in
     let f = key m s.args.batch.now in
     let S = set_below f s.args.n in
@@ -68,41 +68,41 @@ sub-e : tie.Need-overflow_sub-e invariant-loop decreases-loop
 sub-e c = omega (arith, c.loop-e-test.true)
 
 mul-first : tie.Need-offset_bounds-starts-e invariant-loop decreases-loop
-mul-first c = omega (arith, (start c).well-formed, (start c).requires.0.keys.long, within c)
+mul-first c = omega (arith, (start c).well_formed, (start c).requires.0.keys.long, within c)
 
 shared-slice-read-first : tie.Need-bounds-starts-e invariant-loop decreases-loop
-shared-slice-read-first c = let w = c.before in omega (arith, (start w).requires.0.keys.long, within w)
+shared-slice-read-first c = let w = c in omega (arith, (start w.before).requires.0.keys.long, within w.before)
 
 mark-level-requires : tie.Need-mark_level-requires invariant-loop decreases-loop
 mark-level-requires c κs =
-    let w = c.before.before in
-    let s = start w in
-    (row_there (m w) s.args.t (n w) (l w) s.args.starts.now s.requires.0.keys s.args.top s.requires.1 (e w) (behind w) (within w) (head w).loop-e.edges (long w), s.requires.2)
+    let w = c in
+    let s = start w.before.before in
+    (row_there (m w.before.before) s.args.t (n w.before.before) (l w.before.before) s.args.starts.now s.requires.0.keys s.args.top s.requires.1 (e w.before.before) (behind w.before.before) (within w.before.before) (head w.before.before).loop-e.edges (long w.before.before), s.requires.2)
 
 loop-less : tie.Need-loop-e-smaller invariant-loop decreases-loop
-loop-less c = let w = c.before.before.before.before.before in omega (arith, w.loop-e-test.true)
+loop-less c = let w = c in omega (arith, w.loop-e-test.true)
 
 loop-again : tie.Need-loop-e-preserved invariant-loop decreases-loop
 loop-again c =
-    let k = c.before.before in
-    let w = k.before.before.before in
-    let s = start w in
-    let h = head w in (
-      behind w,
-      omega (arith, within w),
+    let k = c in
+    let w = k in
+    let s = start w.before.before.before.before.before in
+    let h = head w.before.before.before.before.before in (
+      behind w.before.before.before.before.before,
+      omega (arith, within w.before.before.before.before.before),
       k.mark_level.auto.edges ∙ h.loop-e.invariant.2,
-      level_marked (m w) (n w) (key (m w) (l w)) s.requires.0.keys.rising (e w) (row_offset s.args.t (l w) (e w) (get_or s.args.starts.now (e w) 0)) h.loop-e.edges k.mark_level.new.edges (within w)
-          (row_offset_lem (m w) s.args.t (n w) (l w) s.args.starts.now s.requires.0.keys s.args.top s.requires.1 (e w) (behind w) (within w))
-          (h.loop-e.invariant.3 ∙ ap (from (m w) (n w) (key (m w) (l w))) (sym (next w))) k.mark_level.ensures,
+      level_marked (m w.before.before.before.before.before) (n w.before.before.before.before.before) (key (m w.before.before.before.before.before) (l w.before.before.before.before.before)) s.requires.0.keys.rising (e w.before.before.before.before.before) (row_offset s.args.t (l w.before.before.before.before.before) (e w.before.before.before.before.before) (get_or s.args.starts.now (e w.before.before.before.before.before) 0)) h.loop-e.edges k.mark_level.new.edges (within w.before.before.before.before.before)
+          (row_offset_lem (m w.before.before.before.before.before) s.args.t (n w.before.before.before.before.before) (l w.before.before.before.before.before) s.args.starts.now s.requires.0.keys s.args.top s.requires.1 (e w.before.before.before.before.before) (behind w.before.before.before.before.before) (within w.before.before.before.before.before))
+          (h.loop-e.invariant.3 ∙ ap (from (m w.before.before.before.before.before) (n w.before.before.before.before.before) (key (m w.before.before.before.before.before) (l w.before.before.before.before.before))) (sym (next w.before.before.before.before.before))) k.mark_level.ensures,
     )
 
 same_length : tie.Need-shape_of-edges invariant-loop decreases-loop
-same_length c = c.before.loop-e.invariant.2
+same_length c = c.loop-e.invariant.2
 
 returns : tie.Need-returns invariant-loop decreases-loop
 returns c =
-    let h = c.before in
-    let s = h.before.before.before.before.before in
+    let h = c in
+    let s = h in
     let m = s.args.m in
     let f = key m s.args.batch.now in
     let z : h.loop-e.e ≡ s.args.top = omega (arith, c.loop-e-test.false, h.loop-e.invariant.0) in

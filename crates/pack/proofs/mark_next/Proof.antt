@@ -16,16 +16,16 @@ sub-if2 : tie.Need-overflow_sub-n
 sub-if2 c = search rules
 
 mark-four-requires : tie.Need-mark_four-requires
-mark-four-requires c κs = let s = c.before.before.before.before.before.before.before in (some s 4 (omega (arith, c.before.if-n-i-ge4.true, s.requires.2)), s.requires.1, c.before.before.if-record-eq0.true)
+mark-four-requires c κs = let s = c in (some s.before.before.before.before.before.before.before 4 (omega (arith, c.if-n-i-ge4.true, s.requires.2)), s.requires.1, c.if-record-eq0.true)
 
 same_length : tie.Need-shape_of-edges-then-n-i-ge4
 same_length c = search rules
 
 returns : tie.Need-returns-then-n-i-ge4
-returns c = let s = c.before.before.before.before.before.before.before.before.before.before in (omega arith, omega (arith, c.before.before.before.before.if-n-i-ge4.true, s.requires.2), c.before.before.mark_four.ensures)
+returns c = let s = c in (omega arith, omega (arith, c.if-n-i-ge4.true, s.requires.2), c.mark_four.ensures)
 
 mark-one-requires : tie.Need-mark_one-requires
-mark-one-requires c κs = let s = c.before.before.before.before.before.before in (some s 1 (omega (arith, s.requires.2)), s.requires.1)
+mark-one-requires c κs = let s = c in (some s.before.before.before.before.before.before 1 (omega (arith, s.requires.2)), s.requires.1)
 
 same-length-2 : tie.Need-shape_of-edges
 same-length-2 c = search rules

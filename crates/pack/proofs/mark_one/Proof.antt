@@ -29,7 +29,7 @@ add-o : tie.Need-overflow_add-o
 add-o c = record { fits = omega (arith, at_most c, (start c).requires.0.fit, (start c).requires.0.small) }
 
 set-bit-requires : tie.Need-set_bit-requires
-set-bit-requires c κs = let k = c.before in (omega (arith, at_most k, (start k).requires.0.fit), (start k).requires.1)
+set-bit-requires c κs = let k = c in (omega (arith, at_most k.before, (start k.before).requires.0.fit), (start k.before).requires.1)
 
 same_length : tie.Need-shape_of-edges
 same_length c = search rules
@@ -37,11 +37,11 @@ same_length c = search rules
 returns : tie.Need-returns
 unfolding row_offset
 returns c =
-    let b = c.before.before in
-    let k = b.before.before in
-    let a = (start k).args in
-    b.set_bit.ensures ∙ ap (λ x. set_bit a.edges-1.now (2 * (a.first.0 + a.i) + x)) k.key_bit.ensures
-    ∙ sym (bits_one (row_offset a.t a.batch.now a.e a.first.0) a.i a.edges-1.now)
+    let b = c in
+    let k = b in
+    let a = (start k.before.before.before.before).args in
+    b.set_bit.ensures ∙ ap (λ x. set_bit a.edges.now (2 * (a.first.0 + a.i) + x)) k.key_bit.ensures
+    ∙ sym (bits_one (row_offset a.t a.batch.now a.e a.first.0) a.i a.edges.now)
 
 pub mark_one_spec : {M : Type 1} → statement M
 mark_one_spec =

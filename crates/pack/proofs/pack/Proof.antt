@@ -31,17 +31,17 @@ slice-aggregate-write-planned c = search rules
 
 write-planned-requires : tie.Need-write_planned-requires
 write-planned-requires c κs =
-    let k = c.before.before in
-    let p = k.before.before in
-    let s = start p in
+    let k = c in
+    let p = k in
+    let s = start p.before.before.before.before in
     let h = subst (Planned s.args.m s.args.batch.now p.plan-planned.new.levels) k.in-Accepted.is p.plan-planned.ensures in
     (h.0, h.1, p.plan-planned.auto.levels ∙ p.no_records-levels.ensures.long)
 
 returns : tie.Need-returns-in-Refused
 unfolding written_outcome refusal pack_call
 returns c =
-    let p = c.before.before in
-    let s = start p in
+    let p = c in
+    let s = start p.before.before in
     ap (λ x. x.outcome) (sym (pack_refused s.args.m s.args.batch.now s.args.out.now c.in-Refused.k
     (subst (Planned s.args.m s.args.batch.now p.plan-planned.new.levels) c.in-Refused.is p.plan-planned.ensures)))
 

@@ -24,7 +24,7 @@ shared-slice-read-if1-2 c = search rules
 
 returns : tie.Need-returns-then-x-j invariant-loop decreases-loop
 returns c =
-    let h = c.before.before.before.before in
+    let h = c in
     record { most = h.loop-j.invariant.0; each = h.loop-j.invariant.1; differ = λ l. c.if-x-j.true }
 
 add-j : tie.Need-overflow_add-j invariant-loop decreases-loop
@@ -34,10 +34,10 @@ loop-less : tie.Need-loop-j-smaller invariant-loop decreases-loop
 loop-less c = search rules
 
 loop-again : tie.Need-loop-j-preserved invariant-loop decreases-loop
-loop-again c = (search rules, below_more _ _ c.before.before.before.before.loop-j.invariant.1 c.if-x-j.false)
+loop-again c = (search rules, below_more _ _ c.loop-j.invariant.1 c.if-x-j.false)
 
 returns-2 : tie.Need-returns invariant-loop decreases-loop
-returns-2 c = record { most = c.before.loop-j.invariant.0; each = c.before.loop-j.invariant.1; differ = λ l. absurd (omega arith) }
+returns-2 c = record { most = c.loop-j.invariant.0; each = c.loop-j.invariant.1; differ = λ l. absurd (omega arith) }
 
 pub same_from_spec : {M : Type 1} → statement M
 same_from_spec =

@@ -18,16 +18,16 @@ word-requires-2 : tie.Need-word-q-requires
 word-requires-2 c κs = search rules
 
 cast-result : tie.Need-overflow_cast-result
-cast-result c = omega (arith, trailing_le 64 (bit_xor c.before.word-p.result c.word-q.result))
+cast-result c = omega (arith, trailing_le 64 (bit_xor c.word-p.result c.word-q.result))
 
 returns : tie.Need-returns
 returns c =
-    let k = c.before.before in
-    let a = k.before.before.args in
+    let k = c in
+    let a = k.args in
     let x = a.x.now in
     let y = a.y.now in
-    subst (λ z. SameBytes (drop a.at x) (drop a.at y) 8 (count_trailing_zeros 64 z / 8)) (sym (ap₂ bit_xor c.before.word-p.ensures c.word-q.ensures))
-    (word_same (drop a.at x) (drop a.at y) 8 (small_from x a.at (λ i. (k.before.shared_slice_known-1.given i).fits)) (small_from y a.at (λ i. (k.shared_slice_known-2-1.given i).fits)))
+    subst (λ z. SameBytes (drop a.at x) (drop a.at y) 8 (count_trailing_zeros 64 z / 8)) (sym (ap₂ bit_xor c.word-p.ensures c.word-q.ensures))
+    (word_same (drop a.at x) (drop a.at y) 8 (small_from x a.at (λ i. (k.shared_slice_known-1.given i).fits)) (small_from y a.at (λ i. (k.shared_slice_known-2-1.given i).fits)))
 
 pub same_in_word_spec : {M : Type 1} → statement M
 same_in_word_spec = tie.close (tie.spec word-requires word-requires-2 cast-result returns)

@@ -23,34 +23,34 @@ sub-loop c = c.loop-j.invariant.0
 
 same-in-word-requires : tie.Need-same_in_word-k-requires invariant-loop decreases-loop
 same-in-word-requires c κs =
-    let h = c.before in
-    (omega (arith, c.loop-j-test.true, h.loop-j.invariant.0, (start h).requires.0), omega (arith, c.loop-j-test.true, h.loop-j.invariant.0, (start h).requires.1))
+    let h = c in
+    (omega (arith, c.loop-j-test.true, h.loop-j.invariant.0, (start h.before).requires.0), omega (arith, c.loop-j-test.true, h.loop-j.invariant.0, (start h.before).requires.1))
 
 add-result : tie.Need-overflow_add-result invariant-loop decreases-loop
-add-result c = let h = c.before.before.before in omega (arith, c.if-k-lt8.true, h.loop-j.invariant.0, (start h).requires.0, (start h).well-formed)
+add-result c = let h = c in omega (arith, c.if-k-lt8.true, h.loop-j.invariant.0, (start h.before.before.before).requires.0, (start h.before.before.before).well_formed)
 
 returns : tie.Need-returns-then-k-lt8 invariant-loop decreases-loop
 returns c =
-    let w = c.before.before in
-    let h = w.before in
-    let a = (start h).args in
-    same_behind a.x.now a.y.now a.t h.loop-j.j c.before.same_in_word-k.result (omega (arith, w.loop-j-test.true, h.loop-j.invariant.0)) c.if-k-lt8.true h.loop-j.invariant.1 c.before.same_in_word-k.ensures
+    let w = c in
+    let h = w in
+    let a = (start h.before.before.before).args in
+    same_behind a.x.now a.y.now a.t h.loop-j.j c.same_in_word-k.result (omega (arith, w.loop-j-test.true, h.loop-j.invariant.0)) c.if-k-lt8.true h.loop-j.invariant.1 c.same_in_word-k.ensures
 
 add-j : tie.Need-overflow_add-j invariant-loop decreases-loop
-add-j c = let h = c.before.before.before in omega (arith, c.before.before.loop-j-test.true, h.loop-j.invariant.0, (start h).requires.0, (start h).well-formed)
+add-j c = let h = c in omega (arith, c.loop-j-test.true, h.loop-j.invariant.0, (start h.before.before.before).requires.0, (start h.before.before.before).well_formed)
 
 loop-less : tie.Need-loop-j-smaller invariant-loop decreases-loop
-loop-less c = omega (arith, c.before.before.loop-j-test.true)
+loop-less c = omega (arith, c.loop-j-test.true)
 
 loop-again : tie.Need-loop-j-preserved invariant-loop decreases-loop
 loop-again c =
-    let w = c.before.before in
-    let h = w.before in
-    let a = (start h).args in
-    (omega (arith, w.loop-j-test.true, h.loop-j.invariant.0), same_eight a.x.now a.y.now h.loop-j.j c.before.same_in_word-k.result c.if-k-lt8.false h.loop-j.invariant.1 c.before.same_in_word-k.ensures)
+    let w = c in
+    let h = w in
+    let a = (start h.before.before.before).args in
+    (omega (arith, w.loop-j-test.true, h.loop-j.invariant.0), same_eight a.x.now a.y.now h.loop-j.j c.same_in_word-k.result c.if-k-lt8.false h.loop-j.invariant.1 c.same_in_word-k.ensures)
 
 same-from-requires : tie.Need-same_from-requires invariant-loop decreases-loop
-same-from-requires c κs = let h = c.before in ((start h).requires.0, (start h).requires.1, h.loop-j.invariant.0, h.loop-j.invariant.1)
+same-from-requires c κs = let h = c in ((start h.before).requires.0, (start h.before).requires.1, h.loop-j.invariant.0, h.loop-j.invariant.1)
 
 returns-2 : tie.Need-returns invariant-loop decreases-loop
 returns-2 c = c.same_from.ensures

@@ -22,7 +22,7 @@ same_length c = search rules
 
 returns : tie.Need-returns
 returns c =
-    let s = c.before.before in
+    let s = c in
     let b = s.args.b.now in
     let o = s.args.o.0 in
     ap (λ x. set b (o / 8) (bit_or (get_or b (o / 8) 0) x)) (s.requires.1.rule (o % 8) (omega arith)) ∙ set_or b o

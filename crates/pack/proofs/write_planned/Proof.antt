@@ -54,7 +54,7 @@ module _ (c : tie.Else-too_short) where
   start = c.before.before.before.before.before
 
   room : end_of (m start) (b start) ≤ length (xs start)
-  room = ltb-false (length (xs start)) (end_of (m start) (b start)) (sym c.before.too_short.ensures ∙ c.if-too_short.false)
+  room = ltb-false (length (xs start)) (end_of (m start) (b start)) (sym c.too_short.ensures ∙ c.if-too_short.false)
 
 -- where the edges go
 module _ (w : tie.After-bytes_for) where
@@ -65,7 +65,7 @@ module _ (w : tie.After-bytes_for) where
   s = start fits
 
   abbrev at : ℕ
-  at = w.before.edges_start-at.result
+  at = w.edges_start-at.result
 
   abbrev end : ℕ
   end = at + w.bytes_for.result
@@ -77,7 +77,7 @@ module _ (w : tie.After-bytes_for) where
   size = omega (arith, w.bytes_for.ensures.0)
 
   place : at ≡ body_at (start4 (m s))
-  place = w.before.edges_start-at.ensures
+  place = w.edges_start-at.ensures
 
   edges_fit : end ≤ length (xs s)
   edges_fit = omega (arith, place, w.bytes_for.ensures.0, edges_end (m s) (b s), room fits)
@@ -105,8 +105,8 @@ too-short-requires c κs = small c.before.before.before
 returns : tie.Need-returns-then-too_short
 unfolding written_outcome refusal
 returns c =
-    let s = c.before.before.before.before.before in
-    sym (call_short (m s) (b s) (l s) s.requires.0.accepted s.requires.1 (xs s) (ltb-true (length (xs s)) (end_of (m s) (b s)) (sym c.before.too_short.ensures ∙ c.if-too_short.true)))
+    let s = c in
+    sym (call_short (m s.before.before.before.before.before) (b s.before.before.before.before.before) (l s.before.before.before.before.before) s.requires.0.accepted s.requires.1 (xs s.before.before.before.before.before) (ltb-true (length (xs s.before.before.before.before.before)) (end_of (m s.before.before.before.before.before) (b s.before.before.before.before.before)) (sym c.too_short.ensures ∙ c.if-too_short.true)))
 
 edges-start-requires : tie.Need-edges_start-at-requires
 edges-start-requires c κs = (small (start c)).0
@@ -128,11 +128,11 @@ part-fill-end c = let f = edges_fit c.before in search rules
 
 fill-requires : tie.Need-fill-requires
 fill-requires c κs =
-    let w = c.before.before in
+    let w = c in
     record {
-      ready = (s w).requires.0;
-      long = (s w).requires.2;
-      room = rw (← (s w).requires.1) (mid_len (at w) (end w) (xs (s w)) (edges_fit w) ∙ size w);
+      ready = (s w.before.before).requires.0;
+      long = (s w.before.before).requires.2;
+      room = rw (← (s w.before.before).requires.1) (mid_len (at w.before.before) (end w.before.before) (xs (s w.before.before)) (edges_fit w.before.before) ∙ size w.before.before);
     }
 
 tallies-requires : tie.Need-tallies-t-requires
@@ -143,18 +143,18 @@ slice-aggregate-write-around-edges c = search rules
 
 write-around-edges-requires : tie.Need-write_around_edges-requires
 write-around-edges-requires c κs =
-    let k = c.before.before.before.before.before.before.before in
-    let w = placed k in
+    let k = c in
+    let w = placed k.before.before.before.before.before.before.before in
     let s = s w in (
-      omega (arith, length_put (m s) (b s) (at w) (n w) (xs s) (ys k) (place w) (size w) (long-edges k) (room (fits w)), room (fits w)),
-      rw (edges-there k) (sealed s),
-      c.before.before.tallies-t.ensures,
+      omega (arith, length_put (m s) (b s) (at w) (n w) (xs s) (ys k.before.before.before.before.before.before.before) (place w) (size w) (long-edges k.before.before.before.before.before.before.before) (room (fits w)), room (fits w)),
+      rw (edges-there k.before.before.before.before.before.before.before) (sealed s),
+      c.tallies-t.ensures,
     )
 
 length-of-requires : tie.Need-length_of-requires
 length-of-requires c κs =
-    let k = c.before.before.before.before.before.before.before.before.before.before in
-    small (s (placed k))
+    let k = c in
+    small (s (placed k.before.before.before.before.before.before.before.before.before.before))
 
 same_length : tie.Need-shape_of-levels
 same_length c = search rules
@@ -165,13 +165,13 @@ same-length-2 c = search rules
 returns-2 : tie.Need-returns
 unfolding written_outcome
 returns-2 c =
-    let a = c.before.before.before in
-    let k = a.before.before.before.before.before.before.before.before in
-    let w = placed k in
+    let a = c in
+    let k = a in
+    let w = placed k.before.before.before.before.before.before.before.before.before.before.before in
     let s = s w in
     let r = room (fits w) in
-    let done = a.write_around_edges.ensures ∙ ap (λ x. front (encode (entry_held (m s) (b s) x)) (zs k)) (edges-there k) ∙ ap (λ x. front (encode x) (zs k)) (same s)
-    ∙ covered (m s) (b s) (at w) (n w) (xs s) (ys k) (place w) (size w) (long-edges k) r (encode (e s)) (long s) in
+    let done = a.write_around_edges.ensures ∙ ap (λ x. front (encode (entry_held (m s) (b s) x)) (zs k.before.before.before.before.before.before.before.before.before.before.before)) (edges-there k.before.before.before.before.before.before.before.before.before.before.before) ∙ ap (λ x. front (encode x) (zs k.before.before.before.before.before.before.before.before.before.before.before)) (same s)
+    ∙ covered (m s) (b s) (at w) (n w) (xs s) (ys k.before.before.before.before.before.before.before.before.before.before.before) (place w) (size w) (long-edges k.before.before.before.before.before.before.before.before.before.before.before) r (encode (e s)) (long s) in
     ap₂ (λ i x. record { answer = wrote (i ∷ []); buffers = x ∷ [] }) c.length_of.ensures done
     ∙ sym (call_fits (m s) (b s) (l s) s.requires.0.accepted s.requires.1 (xs s) r)
 

@@ -33,7 +33,7 @@ returns c = call_refused _ _ _ _ (rw c.in-Refused.is at c.check-checked.ensures)
 returns-2 : tie.Need-returns-in-Opened
 unfolding prefix_call
 returns-2 c =
-    let o : Opens c.before.before.before.before.before.before.before.before.args.l.now c.in-Opened.e = rw c.in-Opened.is at c.check-checked.ensures in
+    let o : Opens c.args.l.now c.in-Opened.e = rw c.in-Opened.is at c.check-checked.ensures in
     call_opened _ _ _ _ _ o.reads c.prefix_in.ensures
 
 pub prefix_spec : {M : Type 1} → statement M
