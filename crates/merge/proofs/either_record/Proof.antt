@@ -5,5 +5,5 @@ use Rattle.merge.proofs.either_record.Tie as tie
 returns : tie.Need-returns
 returns c = or_codes c.args.x c.args.y c.requires.0 c.requires.1
 
-pub either-record-spec : {M : Type 1} → statement M
-either-record-spec = tie.close (tie.spec returns)
+pub either_record_spec : {M : Type 1} → statement M
+either_record_spec = tie.close (tie.spec returns)

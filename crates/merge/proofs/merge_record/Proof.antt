@@ -5,62 +5,50 @@ use borrow.Author.Rules.{rules}
 use Rattle.merge.proofs.merge_record.Statement.{statement}
 use Rattle.merge.proofs.merge_record.Tie as tie
 
-abbrev start : tie.After-record-at → tie.Start
-start c = c.before.before.before.before.before.before.before.before
-
-record-at-requires : tie.Need-record-at-requires
+record-at-requires : tie.Need-record_at-f-requires
 record-at-requires c κs = search rules
 
-record-if-requires : tie.Need-record-if-requires
+record-if-requires : tie.Need-record_if-x-requires
 record-if-requires c κs =
-    let s = start c in
-    λ e. omega (arith, s.pre.1.0 ((flag_odd s.args.q.now s.args.i.0 c.record-at.result c.record-at.ensures.0).0 ∙ e))
+    λ e. omega (arith, c.requires.1.0 ((flag_odd c.args.q.now c.args.i.0 c.record_at-f.result c.record_at-f.ensures.0).0 ∙ e))
 
-record-if-requires-2 : tie.Need-record-if-requires-2
+record-if-requires-2 : tie.Need-record_if-y-requires
 record-if-requires-2 c κs =
-    let s = start c.before in
-    let f = c.before.record-at in
-    λ e. omega (arith, s.pre.1.1.0 ((flag_odd s.args.q.now s.args.i.0 f.result f.ensures.0).1 ∙ e))
+    let f = c.record_at-f in
+    λ e. omega (arith, c.requires.1.1.0 ((flag_odd c.args.q.now c.args.i.0 f.result f.ensures.0).1 ∙ e))
 
-either-record-requires : tie.Need-either-record-requires
+either-record-requires : tie.Need-either_record-z-requires
 either-record-requires c κs = search rules
 
-put-record-requires : tie.Need-put-record-requires
+put-record-requires : tie.Need-put_record-requires
 put-record-requires c κs = search rules
 
-push-children-requires : tie.Need-push-children-requires
+push-children-requires : tie.Need-push_children-end-requires
 push-children-requires c κs = search rules
 
-cast-na : tie.Need-overflow-cast-na
+cast-na : tie.Need-overflow_cast-na
 cast-na c = search rules
 
-add-na : tie.Need-overflow-add-na
+add-na : tie.Need-overflow_add-na
 add-na c = search rules
 
-cast-nb : tie.Need-overflow-cast-nb
+cast-nb : tie.Need-overflow_cast-nb
 cast-nb c = search rules
 
-add-nb : tie.Need-overflow-add-nb
+add-nb : tie.Need-overflow_add-nb
 add-nb c = search rules
 
-same_length : tie.Need-same-length
+same_length : tie.Need-shape_of-q
 same_length c = search rules
 
 returns : tie.Need-returns
 returns c =
-    let p = c.before.before.before.before in
-    let o = p.before.before.before.before in
-    let e = o.before.before in
-    let t3 = e.before in
-    let t2 = t3.before in
-    let t1 = t2.before in
-    let s = start t1 in
-    step_ok s.args.a.now s.args.b.now s.args.q.now o.put_record.new.0 p.push-children.new.0
-    s.args.i.0 s.args.at.a.0 s.args.at.b.0 s.args.at.tail.0 p.push-children.result.0 t1.record-at.result t2.record-if.result t3.record-if2.result e.either-record.result
-    s.pre.0.0 t1.record-at.ensures.0 t2.record-if.ensures.0 t3.record-if2.ensures.0 e.either-record.ensures.0 o.put_record.ensures p.push-children.ensures
+    step_ok c.args.a.now c.args.b.now c.args.q.now c.put_record.new.out c.push_children-end.new.q
+    c.args.i.0 c.args.at.a.0 c.args.at.b.0 c.args.at.tail.0 c.push_children-end.result.0 c.record_at-f.result c.record_if-x.result c.record_if-y.result c.either_record-z.result
+    c.requires.0.0 c.record_at-f.ensures.0 c.record_if-x.ensures.0 c.record_if-y.ensures.0 c.either_record-z.ensures.0 c.put_record.ensures c.push_children-end.ensures
 
-pub merge-record-spec : {M : Type 1} → statement M
-merge-record-spec =
+pub merge_record_spec : {M : Type 1} → statement M
+merge_record_spec =
     tie.close
     (tie.spec
     record-at-requires

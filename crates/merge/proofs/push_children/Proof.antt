@@ -7,29 +7,29 @@ use native.Mathlib.Omega.{arith}
 use Rattle.merge.proofs.push_children.Statement.{statement}
 use Rattle.merge.proofs.push_children.Tie as tie
 
-mul-push : tie.Need-overflow-mul-push
+mul-push : tie.Need-overflow_mul-y
 mul-push c = search rules
 
-add_push : tie.Need-overflow-add-push
+add_push : tie.Need-overflow_add-x
 add_push c = search rules
 
-push-requires : tie.Need-push-requires
+push-requires : tie.Need-push-t-requires
 push-requires c κs = search rules
 
-mul-push-2 : tie.Need-overflow-mul-push-2
+mul-push-2 : tie.Need-overflow_mul-y-2
 mul-push-2 c = search rules
 
-add-push-2 : tie.Need-overflow-add-push-2
+add-push-2 : tie.Need-overflow_add-x-2
 add-push-2 c = search rules
 
-push-requires-2 : tie.Need-push-requires-2
+push-requires-2 : tie.Need-push-requires
 push-requires-2 c κs =
-    let p = c.before.before.before.push.ensures in
+    let p = c.before.before.before.push-t.ensures in
     let s = c.before.before.before.before.before.before in
     let b = bit_le (has_edge (record_of_code (s.args.x / 2 + s.args.y / 2 * 2))) in
     (omega (arith, p.count, p.size, b), omega arith, omega (arith, p.count, b))
 
-same_length : tie.Need-same-length
+same_length : tie.Need-shape_of-q
 same_length c = search rules
 
 returns : tie.Need-returns
@@ -37,11 +37,11 @@ returns c =
     let s = c.before.before.before.before.before.before.before.before.before in
     let one = c.before.before.before.before.before.before in
     let two = c.before.before in
-    push_both s.args.q.now one.push.new.0 two.push2.new.0 s.args.n.0 one.push.result.0 two.push2.result.0 s.args.x s.args.y s.requires.1
-    one.push.ensures two.push2.ensures
+    push_both s.args.q.now one.push-t.new.out two.push.new.out s.args.n.0 one.push-t.result.0 two.push.result.0 s.args.x s.args.y s.requires.1
+    one.push-t.ensures two.push.ensures
 
-pub push-children-spec : {M : Type 1} → statement M
-push-children-spec =
+pub push_children_spec : {M : Type 1} → statement M
+push_children_spec =
     tie.close
     (tie.spec
     mul-push

@@ -10,16 +10,16 @@ use borrow.Author.Rules.{rules}
 use Rattle.merge.proofs.push_four.Statement.{statement}
 use Rattle.merge.proofs.push_four.Tie as tie
 
-run-at-requires : tie.Need-run-at-requires
+run-at-requires : tie.Need-run_at-h-requires
 run-at-requires c κs = search rules
 
-run-at-requires-2 : tie.Need-run-at-requires-2
+run-at-requires-2 : tie.Need-run_at-g-requires
 run-at-requires-2 c κs = search rules
 
-run-and-requires : tie.Need-run-and-requires
+run-and-requires : tie.Need-run_and-requires
 run-and-requires c κs =
-    let g = c.run-at2.ensures.1 in
-    let h = c.before.run_at.ensures.1 in
+    let g = c.run_at-g.ensures.1 in
+    let h = c.before.run_at-h.ensures.1 in
     ((h.0, omega (arith, h.1), h.2), (g.0, omega (arith, g.1), g.2))
 
 returns : tie.Need-returns
@@ -29,11 +29,11 @@ returns c =
     let s = h.before.before in
     let x = s.args.x in
     let y = s.args.y in (
-      c.run-and.ensures.0 ∙ ap₂ (λ a b. a ++ b) h.run_at.ensures.0 g.run-at2.ensures.0
+      c.run_and.ensures.0 ∙ ap₂ (λ a b. a ++ b) h.run_at-h.ensures.0 g.run_at-g.ensures.0
           ∙ sym (map-append record_of_flag (either_flags (bits_of 4 (x / 16)) (bits_of 4 (y / 16))) (either_flags (bits_of 4 (x % 16)) (bits_of 4 (y % 16))))
           ∙ ap (map record_of_flag) (sym (children_four x y)),
-      (c.run-and.ensures.1, omega (arith, c.run-and.ensures.2, h.run_at.ensures.1.1, g.run-at2.ensures.1.1), omega (arith, c.run-and.ensures.2, h.run_at.ensures.1.2, g.run-at2.ensures.1.2)),
+      (c.run_and.ensures.1, omega (arith, c.run_and.ensures.2, h.run_at-h.ensures.1.1, g.run_at-g.ensures.1.1), omega (arith, c.run_and.ensures.2, h.run_at-h.ensures.1.2, g.run_at-g.ensures.1.2)),
     )
 
-pub push-four-spec : {M : Type 1} → statement M
-push-four-spec = tie.close (tie.spec run-at-requires run-at-requires-2 run-and-requires returns)
+pub push_four_spec : {M : Type 1} → statement M
+push_four_spec = tie.close (tie.spec run-at-requires run-at-requires-2 run-and-requires returns)

@@ -9,21 +9,21 @@ use native.Mathlib.Omega.{arith}
 use Rattle.merge.proofs.record_if.Statement.{statement}
 use Rattle.merge.proofs.record_if.Tie as tie
 
-record-at-requires : tie.Need-record-at-requires
+record-at-requires : tie.Need-record_at-requires
 unfolding odd
-record-at-requires c κs = c.before.before.requires (rw c.if1.true)
+record-at-requires c κs = c.before.before.requires (rw c.if-f-eq1.true)
 
-returns : tie.Need-returns
+returns : tie.Need-returns-then-f-eq1
 unfolding taken_record
 returns c =
-    let o : odd c.before.before.before.args.f ≡ true = unfold odd in rw c.before.if1.true in
-    rw o c.record-at.ensures
+    let o : odd c.before.before.before.args.f ≡ true = unfold odd in rw c.before.if-f-eq1.true in
+    rw o c.record_at.ensures
 
-returns-2 : tie.Need-returns-2
+returns-2 : tie.Need-returns-else-f-eq1
 unfolding taken_record empty_record record_of_code odd
 returns-2 c =
-    let o : odd c.before.before.args.f ≡ false = ne_eqb (c.before.before.args.f % 2) 1 c.if1.false in
+    let o : odd c.before.before.args.f ≡ false = ne_eqb (c.before.before.args.f % 2) 1 c.if-f-eq1.false in
     (rw o, omega arith)
 
-pub record-if-spec : {M : Type 1} → statement M
-record-if-spec = tie.close (tie.spec record-at-requires returns returns-2)
+pub record_if_spec : {M : Type 1} → statement M
+record_if_spec = tie.close (tie.spec record-at-requires returns returns-2)
