@@ -9,37 +9,37 @@ use borrow.Author.Rules.{rules}
 use Rattle.restrict.proofs.kept_record.Statement.{statement}
 use Rattle.restrict.proofs.kept_record.Tie as tie
 
-cast-h : tie.Need-overflow-cast-h
+cast-h : tie.Need-overflow_cast-h
 cast-h c = search rules
 
-entry-if-requires : tie.Need-entry-if-requires
+entry-if-requires : tie.Need-entry_if-a-requires
 entry-if-requires c κs =
     let s = c.before.before in
     ((λ e. let g : s.args.x / 2 % 2 ≡ 1 = sym (bit_odd (s.args.x / 2)) ∙ ap bit e in omega (arith, s.requires)), omega (arith, s.requires))
 
-add-t11 : tie.Need-overflow-add-t11
+add-t11 : tie.Need-overflow_add-c
 add-t11 c = search rules
 
-entry-if-requires-2 : tie.Need-entry-if-requires-2
+entry-if-requires-2 : tie.Need-entry_if-b-requires
 entry-if-requires-2 c κs =
     let s = c.before.before.before.before in
     ((λ e. let g : s.args.x % 2 ≡ 1 = sym (bit_odd s.args.x) ∙ ap bit e in omega (arith, s.requires)), omega (arith, s.requires))
 
-mul-result : tie.Need-overflow-mul-result
+mul-result : tie.Need-overflow_mul-result
 mul-result c = search rules
 
-add-result : tie.Need-overflow-add-result
+add-result : tie.Need-overflow_add-result
 add-result c = search rules
 
 returns : tie.Need-returns
 returns c =
     let a = c.before.before in
     let s = a.before.before.before in (
-      kept_code (kept_at s.args.w s.args.z.now s.args.q.now s.args.r.0) s.args.c.0 s.args.x a.entry-if.result c.entry-if2.result s.requires.1 a.entry-if.ensures.0 c.entry-if2.ensures.0,
-      omega (arith, a.entry-if.ensures.1, c.entry-if2.ensures.1),
+      kept_code (kept_at s.args.w s.args.z.now s.args.q.now s.args.r.0) s.args.c.0 s.args.x a.entry_if-a.result c.entry_if-b.result s.requires.1 a.entry_if-a.ensures.0 c.entry_if-b.ensures.0,
+      omega (arith, a.entry_if-a.ensures.1, c.entry_if-b.ensures.1),
     )
 
-pub kept-record-spec : {M : Type 1} → statement M
-kept-record-spec =
+pub kept_record_spec : {M : Type 1} → statement M
+kept_record_spec =
     tie.close
     (tie.spec cast-h entry-if-requires add-t11 entry-if-requires-2 mul-result add-result returns)

@@ -12,199 +12,160 @@ use native.Mathlib.Omega.{arith}
 use Rattle.restrict.proofs.mark_bytes.Statement.{statement}
 use Rattle.restrict.proofs.mark_bytes.Tie as tie
 
-abbrev invariant-loop : tie.invariant-loop
+abbrev invariant-loop : tie.invariant-loop-i
 invariant-loop spreads parts q₀ r n w i₀ c₀ q i c = Marking w q₀ r.0 n i c q
 
-abbrev decreases-loop : tie.decreases-loop
+abbrev decreases-loop : tie.decreases-loop-i
 decreases-loop spreads parts q₀ r n w i₀ c₀ q i c = i
 
-abbrev start : tie.At-loop invariant-loop decreases-loop → tie.Start invariant-loop decreases-loop
-start l = l.before.before.before.before.before
-
-abbrev loop_of : tie.After-record-at invariant-loop decreases-loop → tie.At-loop invariant-loop decreases-loop
-loop_of t = t.before.before.before.before.before.before.before.before.before.before
-
-at : (t : tie.After-record-at invariant-loop decreases-loop)
-    → Marking (start (loop_of t)).args.w (start (loop_of t)).args.q.now (start (loop_of t)).args.r.0 (start (loop_of t)).args.n
-    (suc ((loop_of t).loop.i - 1)) (loop_of t).loop.c (loop_of t).loop.q
+at : (t : tie.After-record_at-x invariant-loop decreases-loop)
+    → Marking t.args.w t.args.q.now t.args.r.0 t.args.n
+    (suc (t.loop-i.i - 1)) t.loop-i.c t.loop-i.q
 at t =
-    let i = t.before.before.before.before.before.before.before.before.before in
-    let z : suc ((loop_of t).loop.i - 1) ≡ (loop_of t).loop.i = omega (arith, i.loop-test.true) in
-    rw z (loop_of t).loop.invariant
+    let z : suc (t.loop-i.i - 1) ≡ t.loop-i.i = omega (arith, t.loop-i-test.true) in
+    rw z t.loop-i.invariant
 
 -- the record that is read is one of those that are as they were
-read : (t : tie.After-record-at invariant-loop decreases-loop) → record_of_code t.record-at.result ≡ record_at (start (loop_of t)).args.q.now ((loop_of t).loop.i - 1)
+read : (t : tie.After-record_at-x invariant-loop decreases-loop) → record_of_code t.record_at-x.result ≡ record_at t.args.q.now (t.loop-i.i - 1)
 read t =
-    let i = t.before.before.before.before.before.before.before.before.before in
-    t.record-at.ensures.0 ∙ (loop_of t).loop.invariant.front ((loop_of t).loop.i - 1) (omega (arith, i.loop-test.true))
+    t.record_at-x.ensures.0 ∙ t.loop-i.invariant.front (t.loop-i.i - 1) (omega (arith, t.loop-i-test.true))
 
-abbrev block_of : tie.Then2 invariant-loop decreases-loop → tie.At-loop invariant-loop decreases-loop
-block_of d = d.before.before.before.before.before.before.before.before
+room : (d : tie.Then-has_mark invariant-loop decreases-loop) → MarkRoom d.args.r.0 d.loop-i.i d.count_edges-k.result d.loop-i.c (length d.loop-i.q)
+room d = d.has_mark.ensures d.if-has_mark.true
 
-room : (d : tie.Then2 invariant-loop decreases-loop) → MarkRoom (start (block_of d)).args.r.0 (block_of d).loop.i d.before.before.count-edges.result (block_of d).loop.c (length (block_of d).loop.q)
-room d = d.before.has-mark.ensures d.if2.true
-
-place : (d : tie.Then2 invariant-loop decreases-loop) → ((block_of d).loop.i - 1) / 4 < length (block_of d).loop.q
+place : (d : tie.Then-has_mark invariant-loop decreases-loop) → (d.loop-i.i - 1) / 4 < length d.loop-i.q
 place d =
-    let i = d.before.before.before.before.before.before.before in
-    let l = block_of d in
-    omega (arith, i.loop-test.true, l.loop.inv.low, l.loop.inv.size, (start l).pre.0)
+    omega (arith, d.loop-i-test.true, d.loop-i.invariant.low, d.loop-i.invariant.size, d.requires.0)
 
 -- sixteen at once
-single-room : (d : tie.Then1 invariant-loop decreases-loop) → SingleRoom d.before.before.before.before.loop.q (start d.before.before.before.before).args.r.0 d.before.before.before.before.loop.i d.before.before.before.before.loop.c
-single-room d = d.before.has-singles.ensures d.if1.true
+single-room : (d : tie.Then-has_singles invariant-loop decreases-loop) → SingleRoom d.loop-i.q d.args.r.0 d.loop-i.i d.loop-i.c
+single-room d = d.has_singles.ensures d.if-has_singles.true
 
-add-c : tie.Need-overflow-add-c invariant-loop decreases-loop
-add-c c = record { fits = omega (arith, c.before.before.before.before.requires.0) }
+add-c : tie.Need-overflow_add-c invariant-loop decreases-loop
+add-c c = record { fits = omega (arith, c.requires.0) }
 
-loop-holds : tie.Need-loop-init invariant-loop decreases-loop
-loop-holds c = mark_none c.before.before.before.before.requires.0.2
+loop-holds : tie.Need-loop-i-init invariant-loop decreases-loop
+loop-holds c = mark_none c.requires.0.2
 
-has-singles-requires : tie.Need-has-singles-requires invariant-loop decreases-loop
+has-singles-requires : tie.Need-has_singles-requires invariant-loop decreases-loop
 has-singles-requires c κs =
-    let l = c.before.before in
-    let s = start l in
-    let z = l.loop.invariant.size in
-    (l.loop.invariant.low, omega (arith, z, s.pre.0), omega (arith, z, s.pre.0))
+    let z = c.loop-i.invariant.size in
+    (c.loop-i.invariant.low, omega (arith, z, c.requires.0), omega (arith, z, c.requires.0))
 
-sub-i : tie.Need-overflow-sub-i invariant-loop decreases-loop
+sub-i : tie.Need-overflow_sub-i invariant-loop decreases-loop
 sub-i c = (single-room c).block
 
-sub-c : tie.Need-overflow-sub-c invariant-loop decreases-loop
+sub-c : tie.Need-overflow_sub-c invariant-loop decreases-loop
 sub-c c = omega (arith, (single-room c).behind)
 
-block-requires : tie.Need-block-requires invariant-loop decreases-loop
-block-requires c κs = let m = single-room c.before in omega (arith, m.queue, m.behind, m.block)
+block-requires : tie.Need-block-y-requires invariant-loop decreases-loop
+block-requires c κs = let m = single-room c in omega (arith, m.queue, m.behind, m.block)
 
-mark-singles-requires : tie.Need-mark-singles-requires invariant-loop decreases-loop
+mark-singles-requires : tie.Need-mark_singles-requires invariant-loop decreases-loop
 mark-singles-requires c κs =
-    let b = c.before in
-    let d = b.before.before in
-    let m = single-room d in
-    (omega (arith, m.whole, m.block), omega (arith, m.queue, m.behind, m.block), omega (arith, m.queue, m.behind), b.block.ensures.1)
+    let m = single-room c.before.before in
+    (omega (arith, m.whole, m.block), omega (arith, m.queue, m.behind, m.block), omega (arith, m.queue, m.behind), c.block-y.ensures.1)
 
-loop-less : tie.Need-loop-smaller invariant-loop decreases-loop
-loop-less c = omega (arith, (single-room c.before.before.before.before.before.before).block)
+loop-less : tie.Need-loop-i-smaller-then-has_singles invariant-loop decreases-loop
+loop-less c = omega (arith, (single-room c.before.before.before.before.before).block)
 
-loop-again : tie.Need-loop-preserved invariant-loop decreases-loop
+loop-again : tie.Need-loop-i-preserved-then-has_singles invariant-loop decreases-loop
 loop-again c =
-    let b = c.before.before.before.before in
-    let d = b.before.before in
-    let l = d.before.before.before.before in
-    let z : 4 * ((l.loop.i - 16) / 4) ≡ l.loop.i - 16 = omega (arith, (single-room d).whole, (single-room d).block) in
-    singles_marked (start l).requires.0.2 l.loop.q _ l.loop.i l.loop.c l.loop.invariant (single-room d) (rw (b.block.ensures.0, z) at c.before.before.mark-singles.ensures)
+    let d = c.before.before.before.before.before in
+    let z : 4 * ((c.loop-i.i - 16) / 4) ≡ c.loop-i.i - 16 = omega (arith, (single-room d).whole, (single-room d).block) in
+    singles_marked c.requires.0.2 c.loop-i.q _ c.loop-i.i c.loop-i.c c.loop-i.invariant (single-room d) (rw (c.block-y.ensures.0, z) at c.mark_singles.ensures)
 
-sub-j : tie.Need-overflow-sub-j invariant-loop decreases-loop
-sub-j c = omega (arith, c.before.before.before.loop-test.true)
+sub-j : tie.Need-overflow_sub-j invariant-loop decreases-loop
+sub-j c = omega (arith, c.loop-i-test.true)
 
-slice-read-y : tie.Need-slice-read-y invariant-loop decreases-loop
+slice-read-y : tie.Need-bounds-q-j invariant-loop decreases-loop
 slice-read-y c =
-    let i = c.before.before.before.before in
-    omega (arith, (start i.before).pre.0, i.before.loop.invariant.low, i.before.loop.invariant.size, i.loop-test.true)
+    omega (arith, c.requires.0, c.loop-i.invariant.low, c.loop-i.invariant.size, c.loop-i-test.true)
 
-count-edges-requires : tie.Need-count-edges-requires invariant-loop decreases-loop
-count-edges-requires c κs = (start c.before.before.before.before.before).pre.1.0.1
+count-edges-requires : tie.Need-count_edges-k-requires invariant-loop decreases-loop
+count-edges-requires c κs = c.requires.1.0.1
 
-has-mark-requires : tie.Need-has-mark-requires invariant-loop decreases-loop
+has-mark-requires : tie.Need-has_mark-requires invariant-loop decreases-loop
 has-mark-requires c κs = search rules
 
-sub-mark-byte : tie.Need-overflow-sub-mark-byte invariant-loop decreases-loop
+sub-mark-byte : tie.Need-overflow_sub-d invariant-loop decreases-loop
 sub-mark-byte c = (room c).less
 
-test-at-requires : tie.Need-test-at-requires invariant-loop decreases-loop
+test-at-requires : tie.Need-test_at-requires invariant-loop decreases-loop
 test-at-requires c κs = search rules
 
-mark-byte-requires : tie.Need-mark-byte-requires invariant-loop decreases-loop
+mark-byte-requires : tie.Need-mark_byte-z-requires invariant-loop decreases-loop
 mark-byte-requires c κs =
-    let d = c.before.before in
-    let l = block_of d in
-    let s = start l in
-    let m = room d in (
-      (test_small c.test_at.result s.args.w (ltb (l.loop.c - d.before.before.count-edges.result) s.args.r.0) c.test_at.ensures s.pre.1.1.1, m.queue, omega (arith, mark_le s.pre.0.2 l.loop.inv, s.pre.0)),
-      s.pre.1.0,
+    let m = room c.before in (
+      (test_small c.test_at.result c.args.w (ltb (c.loop-i.c - c.count_edges-k.result) c.args.r.0) c.test_at.ensures c.requires.1.1.1, m.queue, omega (arith, mark_le c.requires.0.2 c.loop-i.invariant, c.requires.0)),
+      c.requires.1.0,
     )
 
-cast-q : tie.Need-overflow-cast-q invariant-loop decreases-loop
-cast-q c = record { fits = c.mark-byte.ensures.1 }
+cast-q : tie.Need-overflow_cast-q invariant-loop decreases-loop
+cast-q c = record { fits = c.mark_byte-z.ensures.1 }
 
-slice-write-q : tie.Need-slice-write-q invariant-loop decreases-loop
-slice-write-q c = place c.before.before.before
+slice-write-q : tie.Need-bounds-q-j-then-has_mark invariant-loop decreases-loop
+slice-write-q c = place c.before.before
 
-sub-i-2 : tie.Need-overflow-sub-i-2 invariant-loop decreases-loop
+sub-i-2 : tie.Need-overflow_sub-i-then-has_mark invariant-loop decreases-loop
 sub-i-2 c =
-    let d = c.before.before.before in
-    let i = d.before.before.before.before.before.before.before in
-    omega (arith, (room d).whole, i.loop-test.true)
+    omega (arith, (room c.before.before).whole, c.loop-i-test.true)
 
-loop-less-2 : tie.Need-loop-smaller-2 invariant-loop decreases-loop
-loop-less-2 c = omega (arith, c.before.before.before.before.before.before.before.before.before.before.loop-test.true)
+loop-less-2 : tie.Need-loop-i-smaller-then-has_mark invariant-loop decreases-loop
+loop-less-2 c = omega (arith, c.loop-i-test.true)
 
-loop-again-2 : tie.Need-loop-preserved-2 invariant-loop decreases-loop
+loop-again-2 : tie.Need-loop-i-preserved-then-has_mark invariant-loop decreases-loop
 loop-again-2 c =
-    let t = c.before in
-    let d = t.before.before in
-    let k = d.before.before in
-    let i = k.before.before.before.before.before in
-    let l = i.before in
-    let s = start l in
-    marked_byte s.pre.0.2 s.pre.1.1.0 l.loop.q l.loop.i l.loop.c k.count-edges.result (get_or l.loop.q ((l.loop.i - 1) / 4) 0) t.test_at.result c.mark-byte.result
-    i.loop-test.true (byte_front l.loop.invariant i.loop-test.true (room d).whole) l.loop.invariant (room d) k.count-edges.ensures.0 (place d) t.test_at.ensures c.mark-byte.ensures.0
+    let d = c.before.before in
+    marked_byte c.requires.0.2 c.requires.1.1.0 c.loop-i.q c.loop-i.i c.loop-i.c c.count_edges-k.result (get_or c.loop-i.q ((c.loop-i.i - 1) / 4) 0) c.test_at.result c.mark_byte-z.result
+    c.loop-i-test.true (byte_front c.loop-i.invariant c.loop-i-test.true (room d).whole) c.loop-i.invariant (room d) c.count_edges-k.ensures.0 (place d) c.test_at.ensures c.mark_byte-z.ensures.0
 
-record-at-requires : tie.Need-record-at-requires invariant-loop decreases-loop
+record-at-requires : tie.Need-record_at-x-requires invariant-loop decreases-loop
 record-at-requires c κs =
-    let i = c.before.before.before.before.before.before.before.before in
-    let l = i.before in
-    omega (arith, (start l).requires.0, l.loop.invariant.low, l.loop.invariant.size, i.loop-test.true)
+    omega (arith, c.requires.0, c.loop-i.invariant.low, c.loop-i.invariant.size, c.loop-i-test.true)
 
-add-d : tie.Need-overflow-add-d invariant-loop decreases-loop
+add-d : tie.Need-overflow_add-d invariant-loop decreases-loop
 add-d c = search rules
 
-cast-d : tie.Need-overflow-cast-d invariant-loop decreases-loop
+cast-d : tie.Need-overflow_cast-d invariant-loop decreases-loop
 cast-d c = search rules
 
-sub-d : tie.Need-overflow-sub-d invariant-loop decreases-loop
+sub-d : tie.Need-overflow_sub-d-else-has_mark invariant-loop decreases-loop
 sub-d c =
-    let x = c.record-at.ensures in
-    (down (start (loop_of c)).pre.0.2 (at c) x.1 (read c)).0
+    let x = c.record_at-x.ensures in
+    (down c.requires.0.2 (at c) x.1 (read c)).0
 
-kept-record-requires : tie.Need-kept-record-requires invariant-loop decreases-loop
+kept-record-requires : tie.Need-kept_record-z-requires invariant-loop decreases-loop
 kept-record-requires c κs =
-    let t = c.before in
-    let l = loop_of t in
-    let s = start l in
-    let x = t.record-at.ensures in
-    let d = (down s.pre.0.2 (at t) x.1 (read t)).0 in
-    let k = (inside s.pre.0.2 (at t) x.1 (read t)).1 in
-    let z = l.loop.inv.size in
-    (omega (arith, d, k, z, s.pre.0), x.1, omega (arith, z, s.pre.0), omega (arith, z, s.pre.0))
+    let x = c.record_at-x.ensures in
+    let d = (down c.requires.0.2 (at c) x.1 (read c)).0 in
+    let k = (inside c.requires.0.2 (at c) x.1 (read c)).1 in
+    let z = c.loop-i.invariant.size in
+    (omega (arith, d, k, z, c.requires.0), x.1, omega (arith, z, c.requires.0), omega (arith, z, c.requires.0))
 
-put-record-requires : tie.Need-put-record-requires invariant-loop decreases-loop
+put-record-requires : tie.Need-put_record-requires invariant-loop decreases-loop
 put-record-requires c κs =
-    let t = c.before.before.before in
-    let l = loop_of t in
-    (omega (arith, (at t).low, l.loop.inv.size, (start l).pre.0), c.before.kept_record.ensures.1)
+    (omega (arith, (at c.before.before).low, c.loop-i.invariant.size, c.requires.0), c.kept_record-z.ensures.1)
 
-loop-less-3 : tie.Need-loop-smaller-3 invariant-loop decreases-loop
-loop-less-3 c = omega (arith, c.before.before.before.before.before.before.before.before.before.before.before.before.before.before.before.loop-test.true)
+loop-less-3 : tie.Need-loop-i-smaller invariant-loop decreases-loop
+loop-less-3 c = omega (arith, c.loop-i-test.true)
 
-loop-again-3 : tie.Need-loop-preserved-3 invariant-loop decreases-loop
+loop-again-3 : tie.Need-loop-i-preserved invariant-loop decreases-loop
 loop-again-3 c =
-    let k = c.before.before.before.before in
-    let t = k.before.before in
-    let x = t.record-at.ensures in
-    mark_more (start (loop_of t)).pre.0.2 (at t) x.1 (read t) (marked_ok k.kept_record.ensures.0 c.before.before.put_record.ensures)
+    let t = c.before.before.before.before.before in
+    let x = c.record_at-x.ensures in
+    mark_more c.requires.0.2 (at t) x.1 (read t) (marked_ok c.kept_record-z.ensures.0 c.put_record.ensures)
 
-same_length : tie.Need-same-length invariant-loop decreases-loop
-same_length c = c.before.loop.invariant.size
+same_length : tie.Need-shape_of-q invariant-loop decreases-loop
+same_length c = c.loop-i.invariant.size
 
 returns : tie.Need-returns invariant-loop decreases-loop
 returns c =
-    let l = c.before in
-    let z : l.loop.i ≡ 0 = omega (arith, c.loop-test.false) in
-    mark_done (rw z at l.loop.invariant)
+    let z : c.loop-i.i ≡ 0 = omega (arith, c.loop-i-test.false) in
+    mark_done (rw z at c.loop-i.invariant)
 
-pub mark-bytes-spec : {M : Type 1} → statement M
-mark-bytes-spec =
+pub mark_bytes_spec : {M : Type 1} → statement M
+mark_bytes_spec =
     tie.close
     (tie.spec
     invariant-loop

@@ -9,57 +9,56 @@ use borrow.Author.Rules.{rules}
 use Rattle.restrict.proofs.mark_singles.Statement.{statement}
 use Rattle.restrict.proofs.mark_singles.Tie as tie
 
-sixteen-requires : tie.Need-sixteen-requires
+sixteen-requires : tie.Need-sixteen-e-requires
 sixteen-requires c κs = search rules
 
-keep-singles-requires : tie.Need-keep-singles-requires
+keep-singles-requires : tie.Need-keep_singles-k-requires
 keep-singles-requires c κs = search rules
 
-cast-z : tie.Need-overflow-cast-z
+cast-z : tie.Need-overflow_cast-z
 cast-z c = search rules
 
-slice-write-z : tie.Need-slice-write-z
+slice-write-z : tie.Need-bounds-z-at
 slice-write-z c = search rules
 
-cast-z-2 : tie.Need-overflow-cast-z-2
+cast-z-2 : tie.Need-overflow_cast-z-2
 cast-z-2 c = search rules
 
-add-z : tie.Need-overflow-add-z
+add-z : tie.Need-overflow_add-z
 add-z c = search rules
 
-slice-write-z-2 : tie.Need-slice-write-z-2
+slice-write-z-2 : tie.Need-bounds-z-at-2
 slice-write-z-2 c = simp length-set (omega arith)
 
-cast-z-3 : tie.Need-overflow-cast-z-3
+cast-z-3 : tie.Need-overflow_cast-z-3
 cast-z-3 c = search rules
 
-add-z-2 : tie.Need-overflow-add-z-2
+add-z-2 : tie.Need-overflow_add-z-2
 add-z-2 c = search rules
 
-slice-write-z-3 : tie.Need-slice-write-z-3
+slice-write-z-3 : tie.Need-bounds-z-at-3
 slice-write-z-3 c = simp length-set (omega arith)
 
-cast-z-4 : tie.Need-overflow-cast-z-4
+cast-z-4 : tie.Need-overflow_cast-z-4
 cast-z-4 c = search rules
 
-add-z-3 : tie.Need-overflow-add-z-3
+add-z-3 : tie.Need-overflow_add-z-3
 add-z-3 c = search rules
 
-slice-write-z-4 : tie.Need-slice-write-z-4
+slice-write-z-4 : tie.Need-bounds-z-at-4
 slice-write-z-4 c = search rules
 
-same_length : tie.Need-same-length
+same_length : tie.Need-shape_of-z
 same_length c = search rules
 
 returns : tie.Need-returns
 returns c =
-    let s = c.before.before.before.before.before in
-    let l = records_of 16 s.args.y in
-    four_marked s.args.z.now (s.args.i.0 / 4) _ _ _ _ (omega arith) l s.args.i.0 s.args.d.0 c.keep-singles.result (omega arith) c.keep-singles.ensures.1 refl refl refl refl
-    (c.keep-singles.ensures.0 ∙ ap (kept_singles l) c.before.sixteen.ensures.0)
+    let l = records_of 16 c.args.y in
+    four_marked c.args.z.now (c.args.i.0 / 4) _ _ _ _ (omega arith) l c.args.i.0 c.args.d.0 c.keep_singles-k.result (omega arith) c.keep_singles-k.ensures.1 refl refl refl refl
+    (c.keep_singles-k.ensures.0 ∙ ap (kept_singles l) c.sixteen-e.ensures.0)
 
-pub mark-singles-spec : {M : Type 1} → statement M
-mark-singles-spec =
+pub mark_singles_spec : {M : Type 1} → statement M
+mark_singles_spec =
     tie.close
     (tie.spec
     sixteen-requires

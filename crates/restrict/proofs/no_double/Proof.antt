@@ -7,5 +7,5 @@ returns : tie.Need-returns
 unfolding lower
 returns c h = singles 16 c.args.x (yes_eq (both_low 16 c.args.x) 0 h)
 
-pub no-double-spec : {M : Type 1} → statement M
-no-double-spec = tie.close (tie.spec returns)
+pub no_double_spec : {M : Type 1} → statement M
+no_double_spec = tie.close (tie.spec returns)
