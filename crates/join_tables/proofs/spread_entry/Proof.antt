@@ -6,12 +6,12 @@ use borrow.Author.Rules.{rules}
 use Rattle.join_tables.proofs.spread_entry.Statement.{statement}
 use Rattle.join_tables.proofs.spread_entry.Tie as tie
 
-shr-result : tie.Need-overflow-shr-result
+shr-result : tie.Need-overflow_shr-result
 shr-result c = search rules
 
 returns : tie.Need-returns
 unfolding spread_in
 returns c = let z : c.args.x / 2 ^ 0 ≡ c.args.x = omega arith in rw z
 
-pub spread-entry-spec : {M : Type 1} → statement M
-spread-entry-spec = tie.close (tie.spec shr-result returns)
+pub spread_entry_spec : {M : Type 1} → statement M
+spread_entry_spec = tie.close (tie.spec shr-result returns)
