@@ -26,7 +26,7 @@ use Rattle.cursor.proofs.Cursor.TheLaws as C'
 
 -- the array has as many offsets as its type says
 pub cursor_long : (c : Cursor) (vs : List Val) → Is C.the_row c vs → length c.offsets ≡ 256
-cursor_long c vs is = sym (length-map c.offsets (O.the_field).into) ∙ (LL.owed C.the_type C'.the_laws c vs is).1.0.1.0.1
+cursor_long c vs is = (LL.owed C.the_type C'.the_laws c vs is).1.0.1.0.1
 
 pub numbers_long : (os : List EdgeOffset) → length (numbers os) ≡ length os
 unfolding numbers

@@ -7,7 +7,7 @@ use native.Mathlib.Omega.{arith}
 use native.Mathlib.Decide.{dec_le}
 use lib.ListN.{length, take, get_or, set, replicate, length-replicate, get_or-replicate, replicate-append-replicate, get_or-eq_default}
 use lib.Seq.{ext_get_or}
-use borrow.Author.Tests.{lt-leb, lt-ltb, not_false}
+use borrow.Author.Tests.{lt-leb, lt-ltb, not-false}
 use Rattle.loes.specs.Bytes.{bit, tabulate, bits_value, byte_of, pack_bits, started}
 use Rattle.loes.specs.Keys.{Key, KeySet}
 use Rattle.loes.specs.Edges.{record_bits, edges}
@@ -51,7 +51,7 @@ mark_key m n top f r i o u h tm new at =
     let T : ℕ → KeySet = split_at top (set_below f i) u in
     let first : marked_edges m m (set_below f n) (inserted_above T (f i) c) ≡ marked_edges m m (set_below f n) T =
     mark_first c (f i) m (set_below f n) T (r.wide i (omega arith)) (omega arith) (λ x l.
-    rw (lt-ltb x top (omega arith)) (not_false (has_prefix (take (suc x) (f i)) m (set_below f i)) (found_before m n f r i (suc x) h (omega arith) ∙ lt-leb (first_new f i) (suc x) (omega arith)))) in
+    rw (lt-ltb x top (omega arith)) (not-false (has_prefix (take (suc x) (f i)) m (set_below f i)) (found_before m n f r i (suc x) h (omega arith) ∙ lt-leb (first_new f i) (suc x) (omega arith)))) in
     rw (below_suc f i, ← first, bits_edges o c (top - c) (f i) m (set_below f n) T (r.wide i (omega arith)) (in_below f i n h) (omega arith) (λ e q. at e (omega arith)), z, mark_last (f i) m top (set_below f n) (set_below f i) u)
 
 -- ---- before the first key

@@ -1,9 +1,10 @@
+use borrow.Author.Rules.{rules}
 use mathlib.Core.Path.{◌≡◌, sym, ◌∙◌}
 use native.Mathlib.Omega.{arith}
 use Prim.Native.Nat.{◌-◌, ◌≤◌}
 use lib.ListN.{length}
 use Rattle.cursor.specs.Steps.{numbers}
-use Rattle.cursor.proofs.Offsets.{cursor_long, numbers_long, numbers_at, Copied, copied_none, copied_more, copied_all}
+use Rattle.cursor.proofs.Offsets.{numbers_long, numbers_at, Copied, copied_none, copied_more, copied_all}
 use Rattle.cursor.proofs.numbers_of.Statement.{statement}
 use Rattle.cursor.proofs.numbers_of.Tie as tie
 
@@ -14,7 +15,7 @@ abbrev decreases-loop : tie.decreases-loop-d
 decreases-loop offsets path₀ d₀ path d = 256 - d
 
 size : (s : tie.Start invariant-loop decreases-loop) → length s.args.c.offsets ≡ 256
-size s = cursor_long s.args.c _ s.well_formed.0
+size s = search rules
 
 loop-holds : tie.Need-loop-d-init invariant-loop decreases-loop
 loop-holds c = (omega arith, copied_none _ _ (sym (numbers_long _ ∙ size c.before)))

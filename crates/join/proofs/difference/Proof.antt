@@ -5,51 +5,51 @@ use borrow.Author.Rules.{rules}
 use Rattle.join.proofs.difference.Statement.{statement}
 use Rattle.join.proofs.difference.Tie as tie
 
-longer-requires : tie.Need-longer-requires
+longer-requires : tie.Need-longer-n-requires
 longer-requires c κs = search rules
 
-join-tiny-requires : tie.Need-join-tiny-requires
+join-tiny-requires : tie.Need-join_tiny-requires
 join-tiny-requires c κs = search rules
 
-same_length : tie.Need-same-length
+same_length : tie.Need-shape_of-out-then-n-le-TINY
 same_length c = search rules
 
-returns : tie.Need-returns
+returns : tie.Need-returns-then-n-le-TINY
 unfolding join_call difference_call difference
-returns c = c.before.before.join-tiny.ensures
+returns c = c.join_tiny.ensures
 
-join-small-requires : tie.Need-join-small-requires
+join-small-requires : tie.Need-join_small-requires
 join-small-requires c κs = search rules
 
-same-length-2 : tie.Need-same-length-2
+same-length-2 : tie.Need-shape_of-out-then-n-le-SMALL
 same-length-2 c = search rules
 
-returns-2 : tie.Need-returns-2
+returns-2 : tie.Need-returns-then-n-le-SMALL
 unfolding join_call difference_call difference
-returns-2 c = c.before.before.join-small.ensures
+returns-2 c = c.join_small.ensures
 
-join-middle-requires : tie.Need-join-middle-requires
+join-middle-requires : tie.Need-join_middle-requires
 join-middle-requires c κs = search rules
 
-same-length-3 : tie.Need-same-length-3
+same-length-3 : tie.Need-shape_of-out-then-n-le-MIDDLE
 same-length-3 c = search rules
 
-returns-3 : tie.Need-returns-3
+returns-3 : tie.Need-returns-then-n-le-MIDDLE
 unfolding join_call difference_call difference
-returns-3 c = c.before.before.join-middle.ensures
+returns-3 c = c.join_middle.ensures
 
-join-large-requires : tie.Need-join-large-requires
+join-large-requires : tie.Need-join_large-requires
 join-large-requires c κs = search rules
 
-same-length-4 : tie.Need-same-length-4
+same-length-4 : tie.Need-shape_of-out
 same-length-4 c = search rules
 
-returns-4 : tie.Need-returns-4
+returns-4 : tie.Need-returns
 unfolding join_call difference_call difference
-returns-4 c = c.before.before.join-large.ensures
+returns-4 c = c.join_large.ensures
 
-pub difference-spec : {M : Type 1} → statement M
-difference-spec =
+pub difference_spec : {M : Type 1} → statement M
+difference_spec =
     tie.close
     (tie.spec
     longer-requires

@@ -5,22 +5,22 @@ use borrow.Author.Rules.{rules}
 use Rattle.join.proofs.open_both.Statement.{statement}
 use Rattle.join.proofs.open_both.Tie as tie
 
-check-requires : tie.Need-check-requires
+check-requires : tie.Need-check-first-requires
 check-requires c κs = search rules
 
-check-requires-2 : tie.Need-check-requires-2
+check-requires-2 : tie.Need-check-second-requires
 check-requires-2 c κs = search rules
 
-pair-of-requires : tie.Need-pair-of-requires
+pair-of-requires : tie.Need-pair_of-requires
 pair-of-requires c κs = search rules
 
 returns : tie.Need-returns
 returns c =
-    let second = c.before in
-    let first = second.before in
-    let s = first.before.before.before.before in
+    let second = c in
+    let first = second in
+    let s = first in
     subst (Both s.args.a.now s.args.b.now) (sym c.pair_of.ensures)
-    (both_is s.args.a.now s.args.b.now first.check.result second.check2.result first.check.ensures second.check2.ensures)
+    (both_is s.args.a.now s.args.b.now first.check-first.result second.check-second.result first.check-first.ensures second.check-second.ensures)
 
-pub open-both-spec : {M : Type 1} → statement M
-open-both-spec = tie.close (tie.spec check-requires check-requires-2 pair-of-requires returns)
+pub open_both_spec : {M : Type 1} → statement M
+open_both_spec = tie.close (tie.spec check-requires check-requires-2 pair-of-requires returns)

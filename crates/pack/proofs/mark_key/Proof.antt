@@ -161,8 +161,8 @@ returns-2 c =
     let z : h.loop-e.e ≡ a.m = omega (arith, c.loop-e-test.false, h.loop-e.invariant.1) in
     let o = offset_of a.cursors.now a.new a.key.now in (
       record { long = h.loop-e.invariant.2; each = λ e l. h.loop-e.invariant.4 e (omega arith) },
-      rw z at h.loop-e.invariant.6 ∙ bits_all o a.new a.m a.edges.now _ e.if1.false
-          (k.mark_above.ensures ∙ above_is a.cursors.now a.new a.key.now a.edges.now (λ p. ((up s.before.before.before.before.before.before.before.before.before.before.before e.if1.false p).1, s.requires.0.later p e.if1.false))),
+      rw z at h.loop-e.invariant.6 ∙ bits_all o a.new a.m a.edges.now _ c.if-m-new.false
+          (k.mark_above.ensures ∙ above_is a.cursors.now a.new a.key.now a.edges.now (λ p. ((up s.before.before.before.before.before.before.before.before.before.before.before c.if-m-new.false p).1, s.requires.0.later p c.if-m-new.false))),
     )
 
 pub mark_key_spec : {M : Type 1} → statement M

@@ -31,7 +31,7 @@ mark-next-requires c κs =
     (same_room a.t a.n a.e a.first.0 a.batch.now a.edges.now h.loop-i.edges s.requires.0 h.loop-i.invariant.1, s.requires.1, w.loop-i-test.true)
 
 add-i : tie.Need-overflow_add-i invariant-loop decreases-loop
-add-i c = let k = c in record { fits = omega (arith, k.mark_next-i.ensures.1, (start k.before.before.before.before.before).fits) }
+add-i c = let k = c in record { fits = omega (arith, k.mark_next-i.ensures.1, c.ranges.n.fits) }
 
 loop-less : tie.Need-loop-i-smaller invariant-loop decreases-loop
 loop-less c = let k = c in omega (arith, k.mark_next-i.ensures.0, k.mark_next-i.ensures.1)

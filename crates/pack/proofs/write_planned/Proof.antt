@@ -94,7 +94,7 @@ module _ (k : tie.After-fill) where
   zs = put_mid (at placed) (n placed) (xs (s placed)) ys
 
   long-edges : length ys ≡ n placed
-  long-edges = k.fill.kept.1.1.1.0 ∙ mid_len (at placed) (end placed) (xs (s placed)) (edges_fit placed)
+  long-edges = k.fill.auto.edges ∙ mid_len (at placed) (end placed) (xs (s placed)) (edges_fit placed)
 
   edges-there : standing (m (s placed)) (b (s placed)) zs ≡ pack_bits (edges_of (e (s placed)))
   edges-there = stands (m (s placed)) (b (s placed)) (at placed) (n placed) (xs (s placed)) ys (place placed) (size placed) long-edges (room (fits placed)) ∙ k.fill.ensures
