@@ -6,55 +6,55 @@ use borrow.Author.Rules.{rules}
 use Rattle.split.proofs.split_tiny.Statement.{statement}
 use Rattle.split.proofs.split_tiny.Tie as tie
 
-tallies-requires : tie.Need-tallies-requires
+tallies-requires : tie.Need-tallies-t-requires
 tallies-requires c κs = search rules
 
-tiny-queue-requires : tie.Need-tiny-queue-requires
+tiny-queue-requires : tie.Need-tiny_queue-q-requires
 tiny-queue-requires c κs = search rules
 
-tiny-marks-requires : tie.Need-tiny-marks-requires
+tiny-marks-requires : tie.Need-tiny_marks-x-requires
 tiny-marks-requires c κs = search rules
 
-tiny-marks-requires-2 : tie.Need-tiny-marks-requires-2
+tiny-marks-requires-2 : tie.Need-tiny_marks-y-requires
 tiny-marks-requires-2 c κs = search rules
 
-tiny-marks-requires-3 : tie.Need-tiny-marks-requires-3
+tiny-marks-requires-3 : tie.Need-tiny_marks-z-requires
 tiny-marks-requires-3 c κs = search rules
 
-slice-aggregate-split-with : tie.Need-slice-aggregate-split-with
+slice-aggregate-split-with : tie.Need-slice_bounds-split_with-end
 slice-aggregate-split-with c = search rules
 
-slice-aggregate-split-with-2 : tie.Need-slice-aggregate-split-with-2
+slice-aggregate-split-with-2 : tie.Need-slice_bounds-split_with-end-2
 slice-aggregate-split-with-2 c = search rules
 
-slice-aggregate-split-with-3 : tie.Need-slice-aggregate-split-with-3
+slice-aggregate-split-with-3 : tie.Need-slice_bounds-split_with-end-3
 slice-aggregate-split-with-3 c = search rules
 
-slice-aggregate-split-with-4 : tie.Need-slice-aggregate-split-with-4
+slice-aggregate-split-with-4 : tie.Need-slice_bounds-split_with-end-4
 slice-aggregate-split-with-4 c = search rules
 
-slice-aggregate-split-with-5 : tie.Need-slice-aggregate-split-with-5
+slice-aggregate-split-with-5 : tie.Need-slice_bounds-split_with-end-5
 slice-aggregate-split-with-5 c = search rules
 
-split-with-requires : tie.Need-split-with-requires
+split-with-requires : tie.Need-split_with-requires
 split-with-requires c κs =
-    let s = c.before.before.before.before.before.before.before.before.before.before.before.before.before.before.before.before.before.before in
-    (rooms_for tiny (length s.args.a.now) (length s.args.b.now) _ _ _ _ (omega arith) (λ b i j. omega (arith, i, s.requires.0)) (λ b i j. omega (arith, i, s.requires.1)) c.before.before.before.before.before.before.before.before.before.before.before.tiny-queue.ensures c.before.before.before.before.before.before.before.before.before.before.tiny-marks.ensures c.before.before.before.before.before.before.before.before.before.tiny-marks2.ensures c.before.before.before.before.before.before.before.before.tiny-marks3.ensures, c.before.before.before.before.before.before.before.before.before.before.before.before.tallies.ensures)
+    let s = c in
+    (rooms_for tiny (length s.args.a.now) (length s.args.b.now) _ _ _ _ (omega arith) (λ b i j. omega (arith, i, s.requires.0)) (λ b i j. omega (arith, i, s.requires.1)) c.tiny_queue-q.ensures c.tiny_marks-x.ensures c.tiny_marks-y.ensures c.tiny_marks-z.ensures, c.tallies-t.ensures)
 
-same_length : tie.Need-same-length
+same_length : tie.Need-shape_of-both
 same_length c = search rules
 
-same-length-2 : tie.Need-same-length-2
+same-length-2 : tie.Need-shape_of-only_first
 same-length-2 c = search rules
 
-same-length-3 : tie.Need-same-length-3
+same-length-3 : tie.Need-shape_of-only_second
 same-length-3 c = search rules
 
 returns : tie.Need-returns
 returns c = search rules
 
-pub split-tiny-spec : {M : Type 1} → statement M
-split-tiny-spec =
+pub split_tiny_spec : {M : Type 1} → statement M
+split_tiny_spec =
     tie.close
     (tie.spec
     tallies-requires

@@ -12,9 +12,9 @@ use Rattle.split.proofs.split_with.Statement.{statement}
 use Rattle.split.proofs.split_with.Tie as tie
 
 -- where both are opened
-module _ (k : tie.After-known-told2) where
-  abbrev opening : tie.After-open-both
-  opening = k.before.before.before
+module _ (k : tie.In-Opened) where
+  abbrev opening : tie.After-open_both-pair
+  opening = k.before
 
   abbrev start : tie.Start
   start = opening.before.before.before.before.before.before.before.before.before.before.before
@@ -26,66 +26,66 @@ module _ (k : tie.After-known-told2) where
   b = start.args.b.now
 
   abbrev e : Encoding
-  e = k.before.pair2.given.0.0
+  e = k.in-Opened.e
 
   abbrev f : Encoding
-  f = k.before.pair2.given.0.1.0
+  f = k.in-Opened.f
 
   both : Both a b (Opened e f)
-  both = subst (Both a b) k.before.pair2.given.1 opening.open-both.ensures
+  both = subst (Both a b) k.in-Opened.is opening.open_both-pair.ensures
 
-open-both-requires : tie.Need-open-both-requires
+open-both-requires : tie.Need-open_both-pair-requires
 open-both-requires c κs = search rules
 
-enum-known-pair : tie.Need-enum-known-pair
+enum-known-pair : tie.Need-enum_known-pair
 enum-known-pair c = search rules
 
-enum-known-pair-2 : tie.Need-enum-known-pair-2
+enum-known-pair-2 : tie.Need-enum_known-pair-in-Opened-1
 enum-known-pair-2 c = search rules
 
-split-opened-requires : tie.Need-split-opened-requires
+split-opened-requires : tie.Need-split_opened-requires
 split-opened-requires c κs =
-    let k = c.before.before.before.before.before.before.before in
-    let o = both k in
-    (o, ((start k).requires.0 (e k).bits (f k).bits (opens_short (a k) (e k) o.0) (opens_room (a k) (e k) o.0).few (opens_short (b k) (f k) o.1) (opens_room (b k) (f k) o.1).few, (start k).requires.1))
+    let k = c in
+    let o = both k.before.before.before.before.before.before.before in
+    (o, ((start k.before.before.before.before.before.before.before).requires.0 (e k.before.before.before.before.before.before.before).bits (f k.before.before.before.before.before.before.before).bits (opens_short (a k.before.before.before.before.before.before.before) (e k.before.before.before.before.before.before.before) o.0) (opens_room (a k.before.before.before.before.before.before.before) (e k.before.before.before.before.before.before.before) o.0).few (opens_short (b k.before.before.before.before.before.before.before) (f k.before.before.before.before.before.before.before) o.1) (opens_room (b k.before.before.before.before.before.before.before) (f k.before.before.before.before.before.before.before) o.1).few, (start k.before.before.before.before.before.before.before).requires.1))
 
-returns : tie.Need-returns
+returns : tie.Need-returns-in-Refused
 unfolding split_outcome
 returns c =
-    let o = c.before.before.before in
-    let s = o.before.before.before.before.before.before.before.before.before.before.before in
-    sym (split_refused s.args.a.now s.args.b.now s.args.both.now s.args.only-first.now s.args.only-second.now c.before.pair.given.0.0 (subst (Both s.args.a.now s.args.b.now) c.before.pair.given.1 o.open-both.ensures))
+    let o = c in
+    let s = o in
+    sym (split_refused s.args.a.now s.args.b.now s.args.both.now s.args.only-first.now s.args.only-second.now c.in-Refused.k (subst (Both s.args.a.now s.args.b.now) c.in-Refused.is o.open_both-pair.ensures))
 
-same_length : tie.Need-same-length
+same_length : tie.Need-shape_of-q
 same_length c = search rules
 
-same-length-2 : tie.Need-same-length-2
+same-length-2 : tie.Need-shape_of-x
 same-length-2 c = search rules
 
-same-length-3 : tie.Need-same-length-3
+same-length-3 : tie.Need-shape_of-y
 same-length-3 c = search rules
 
-same-length-4 : tie.Need-same-length-4
+same-length-4 : tie.Need-shape_of-z
 same-length-4 c = search rules
 
-same-length-5 : tie.Need-same-length-5
+same-length-5 : tie.Need-shape_of-both
 same-length-5 c = search rules
 
-same-length-6 : tie.Need-same-length-6
+same-length-6 : tie.Need-shape_of-only_first
 same-length-6 c = search rules
 
-same-length-7 : tie.Need-same-length-7
+same-length-7 : tie.Need-shape_of-only_second
 same-length-7 c = search rules
 
-returns-2 : tie.Need-returns-2
+returns-2 : tie.Need-returns-in-Opened
 returns-2 c =
-    let w = c.before.before.before.before.before.before.before.before.before.before.before.before.before.before in
-    let k = w.before.before.before.before.before.before.before.before in
-    let s = start k in
-    w.split-opened.ensures ∙ sym (split_opens (a k) (b k) s.args.both.now s.args.only-first.now s.args.only-second.now (both k).0.reads (both k).1.reads)
+    let w = c in
+    let k = w in
+    let s = start k.before.before.before.before.before.before.before.before.before.before.before.before.before.before.before.before.before.before.before.before.before.before in
+    w.split_opened.ensures ∙ sym (split_opens (a k.before.before.before.before.before.before.before.before.before.before.before.before.before.before.before.before.before.before.before.before.before.before) (b k.before.before.before.before.before.before.before.before.before.before.before.before.before.before.before.before.before.before.before.before.before.before) s.args.both.now s.args.only-first.now s.args.only-second.now (both k.before.before.before.before.before.before.before.before.before.before.before.before.before.before.before.before.before.before.before.before.before.before).0.reads (both k.before.before.before.before.before.before.before.before.before.before.before.before.before.before.before.before.before.before.before.before.before.before).1.reads)
 
-pub split-with-spec : {M : Type 1} → statement M
-split-with-spec =
+pub split_with_spec : {M : Type 1} → statement M
+split_with_spec =
     tie.close
     (tie.spec
     open-both-requires

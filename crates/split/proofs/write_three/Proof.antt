@@ -15,7 +15,7 @@ use Rattle.split.proofs.write_three.Statement.{statement}
 use Rattle.split.proofs.write_three.Tie as tie
 
 -- all fit
-module _ (k : tie.Else1) where
+module _ (k : tie.Else-any_short) where
   abbrev start : tie.Start
   start = k.before.before.before.before.before.before.before.before.before
 
@@ -33,7 +33,7 @@ module _ (k : tie.Else1) where
   z = short start.args.only-second.now start.args.k.only_second
 
   fits : (x || (y || z)) ≡ false
-  fits = sym k.before.any-short.ensures ∙ k.if1.left
+  fits = sym k.any_short.ensures ∙ k.if-any_short.false
 
   room : (out : Bytes) (b : ℕ) → short out b ≡ false → end_of start.args.m b ≤ length out
   room out b h = no_lt (length out) (end_of start.args.m b) h
@@ -47,50 +47,50 @@ module _ (k : tie.Else1) where
   second-room : end_of start.args.m start.args.k.only_second ≤ length start.args.only-second.now
   second-room = room start.args.only-second.now _ (neither y z (neither x (y || z) fits).1).1
 
-any-short-requires : tie.Need-any-short-requires
+any-short-requires : tie.Need-any_short-requires
 any-short-requires c κs = search rules
 
-returns : tie.Need-returns
+returns : tie.Need-returns-then-any_short
 unfolding split_outcome refusal
 returns c =
-    let s = c.before.before.before.before.before.before.before.before.before in
+    let s = c in
     let j = s.requires.0 in
     let f = s.requires.1 in
-    sym (ap (λ x. x.outcome) (three_refused s.args.m _ _ _ _ _ _ j.0 j.1 j.2 f.0 f.1 f.2 s.args.both.now s.args.only-first.now s.args.only-second.now (sym c.before.any-short.ensures ∙ c.if1.true)))
+    sym (ap (λ x. x.outcome) (three_refused s.args.m _ _ _ _ _ _ j.0 j.1 j.2 f.0 f.1 f.2 s.args.both.now s.args.only-first.now s.args.only-second.now (sym c.any_short.ensures ∙ c.if-any_short.true)))
 
-put-encoding-requires : tie.Need-put-encoding-requires
-put-encoding-requires c κs = let k = c.before in let s = start k in (s.pre.0.0, s.pre.1.3, s.pre.1.0, both-room k)
+put-encoding-requires : tie.Need-put_encoding-a-requires
+put-encoding-requires c κs = let k = c in let s = start k.before in (s.requires.0.0, s.requires.1.3, s.requires.1.0, both-room k.before)
 
-put-encoding-requires-2 : tie.Need-put-encoding-requires-2
-put-encoding-requires-2 c κs = let k = c.before.before.before.before.before in let s = start k in (s.pre.0.1, s.pre.1.3, s.pre.1.1, first-room k)
+put-encoding-requires-2 : tie.Need-put_encoding-b-requires
+put-encoding-requires-2 c κs = let k = c in let s = start k.before.before.before.before.before in (s.requires.0.1, s.requires.1.3, s.requires.1.1, first-room k.before.before.before.before.before)
 
-put-encoding-requires-3 : tie.Need-put-encoding-requires-3
-put-encoding-requires-3 c κs = let k = c.before.before.before.before.before.before.before.before.before in let s = start k in (s.pre.0.2, s.pre.1.3, s.pre.1.2, second-room k)
+put-encoding-requires-3 : tie.Need-put_encoding-c-requires
+put-encoding-requires-3 c κs = let k = c in let s = start k.before.before.before.before.before.before.before.before.before in (s.requires.0.2, s.requires.1.3, s.requires.1.2, second-room k.before.before.before.before.before.before.before.before.before)
 
-same_length : tie.Need-same-length
+same_length : tie.Need-shape_of-both
 same_length c = search rules
 
-same-length-2 : tie.Need-same-length-2
+same-length-2 : tie.Need-shape_of-only_first
 same-length-2 c = search rules
 
-same-length-3 : tie.Need-same-length-3
+same-length-3 : tie.Need-shape_of-only_second
 same-length-3 c = search rules
 
-returns-2 : tie.Need-returns-2
+returns-2 : tie.Need-returns
 unfolding split_outcome
 returns-2 c =
-    let x = c.before.before.before.before.before.before.before.before.before.before.put-encoding.ensures in
-    let y = c.before.before.before.before.before.before.put-encoding2.ensures in
-    let z = c.before.before.put-encoding3.ensures in
-    let k = c.before.before.before.before.before.before.before.before.before.before.before.before in
-    let s = start k in
-    let j = s.pre.0 in
-    let f = s.pre.1 in
+    let x = c.put_encoding-a.ensures in
+    let y = c.put_encoding-b.ensures in
+    let z = c.put_encoding-c.ensures in
+    let k = c in
+    let s = start k.before.before.before.before.before.before.before.before.before.before.before.before in
+    let j = s.requires.0 in
+    let f = s.requires.1 in
     ap₂ (λ n l. writing_all (wrote n) l) (ap₂ ◌∷◌ x.0 (ap₂ ◌∷◌ y.0 (ap (λ n. n ∷ []) z.0))) (ap₂ ◌∷◌ x.1 (ap₂ ◌∷◌ y.1 (ap (λ l. l ∷ []) z.1)))
-    ∙ sym (three_written s.args.m _ _ _ _ _ _ j.0 j.1 j.2 f.0 f.1 f.2 s.args.both.now s.args.only-first.now s.args.only-second.now (fits k))
+    ∙ sym (three_written s.args.m _ _ _ _ _ _ j.0 j.1 j.2 f.0 f.1 f.2 s.args.both.now s.args.only-first.now s.args.only-second.now (fits k.before.before.before.before.before.before.before.before.before.before.before.before))
 
-pub write-three-spec : {M : Type 1} → statement M
-write-three-spec =
+pub write_three_spec : {M : Type 1} → statement M
+write_three_spec =
     tie.close
     (tie.spec
     any-short-requires

@@ -18,28 +18,28 @@ use Rattle.weights.proofs.Flags.{first_next, second_next, first_within, second_w
 use Rattle.weights.proofs.any_outside.Statement.{statement}
 use Rattle.weights.proofs.any_outside.Tie as tie
 
-abbrev invariant-loop : tie.invariant-loop
+abbrev invariant-loop : tie.invariant-loop-i
 invariant-loop q r n wa wb ia₀ ib₀ over₀ i₀ ia ib over i =
     (i ≤ n) × (ia ≡ first_count (flags_from q r.0 i)) × (ib ≡ second_count (flags_from q r.0 i)) × (over ≡ any_below (over_at q r.0 wa wb) i)
 
-abbrev decreases-loop : tie.decreases-loop
+abbrev decreases-loop : tie.decreases-loop-i
 decreases-loop q r n wa wb ia₀ ib₀ over₀ i₀ ia ib over i = n - i
 
-abbrev start : tie.At-loop invariant-loop decreases-loop → tie.Start invariant-loop decreases-loop
+abbrev start : tie.At-loop-i invariant-loop decreases-loop → tie.Start invariant-loop decreases-loop
 start l = l.before.before
 
-loop-holds : tie.Need-loop-init invariant-loop decreases-loop
+loop-holds : tie.Need-loop-i-init invariant-loop decreases-loop
 unfolding flags_from tabulate first_count second_count any_below any_of
 loop-holds c = (omega arith, refl, refl, refl)
 
-flag-at-requires : tie.Need-flag-at-requires invariant-loop decreases-loop
+flag-at-requires : tie.Need-flag_at-f-requires invariant-loop decreases-loop
 flag-at-requires c κs =
     let s = start c.before in
-    record { fits = omega (arith, s.pre.fits, c.loop-test.true); small = s.pre.small }
+    record { fits = omega (arith, s.requires.fits, c.loop-i-test.true); small = s.requires.small }
 
 -- the flag was read
-module _ (c : tie.After-flag-at invariant-loop decreases-loop) where
-  abbrev l : tie.At-loop invariant-loop decreases-loop
+module _ (c : tie.After-flag_at-f invariant-loop decreases-loop) where
+  abbrev l : tie.At-loop-i invariant-loop decreases-loop
   l = c.before.before
 
   abbrev s : tie.Start invariant-loop decreases-loop
@@ -58,90 +58,90 @@ module _ (c : tie.After-flag-at invariant-loop decreases-loop) where
   wb = s.args.wb.now
 
   abbrev i : ℕ
-  i = l.loop.i
+  i = l.loop-i.i
 
   abbrev f : ℕ
-  f = c.flag_at.result
+  f = c.flag_at-f.result
 
   more : i < s.args.n
-  more = c.before.loop-test.true
+  more = c.loop-i-test.true
 
   flag : FlagRead q r i f
-  flag = c.flag_at.ensures
+  flag = c.flag_at-f.ensures
 
   few : i < 4 * max_edges
-  few = omega (arith, s.pre.fits, s.pre.small, more)
+  few = omega (arith, s.requires.fits, s.requires.small, more)
 
-sum-at-requires : tie.Need-sum-at-requires invariant-loop decreases-loop
+sum-at-requires : tie.Need-sum_at-s-requires invariant-loop decreases-loop
 sum-at-requires c κs = search rules
 
-cast-ia : tie.Need-overflow-cast-ia invariant-loop decreases-loop
+cast-ia : tie.Need-overflow_cast-ia invariant-loop decreases-loop
 cast-ia c = record { fits = omega arith }
 
-cast-ib : tie.Need-overflow-cast-ib invariant-loop decreases-loop
+cast-ib : tie.Need-overflow_cast-ib invariant-loop decreases-loop
 cast-ib c = record { fits = omega arith }
 
 -- the sum is that of member i
-module _ (c : tie.After-sum-at invariant-loop decreases-loop) where
-  abbrev a : tie.After-flag-at invariant-loop decreases-loop
+module _ (c : tie.After-sum_at-s invariant-loop decreases-loop) where
+  abbrev a : tie.After-flag_at-f invariant-loop decreases-loop
   a = c.before
 
   abbrev sum : ℤ
-  sum = c.sum-at.result
+  sum = c.sum_at-s.result
 
   sum-read : to_z w64 (of_z w64 sum) ≡ sum
-  sum-read = to_z-of_z {w = w64} {z = sum} (record { sfits = c.sum-at.type-inv })
+  sum-read = to_z-of_z {w = w64} {z = sum} (record { sfits = c.sum_at-s.type-inv })
 
   summed : sum ≡ sum_at (q a) (r a) (wa a) (wb a) (i a)
   summed =
-      c.sum-at.ensures.0
-      ∙ ap₂ (λ x y. taken (odd (f a)) (wa a) x +ℤ taken (odd (f a / 2)) (wb a) y) (l a).loop.inv.1 (l a).loop.inv.2
+      c.sum_at-s.ensures.0
+      ∙ ap₂ (λ x y. taken (odd (f a)) (wa a) x +ℤ taken (odd (f a / 2)) (wb a) y) (l a).loop-i.invariant.1 (l a).loop-i.invariant.2
       ∙ sum_is (flag a) (wa a) (wb a)
 
   over-read : outside sum ≡ over_at (q a) (r a) (wa a) (wb a) (i a)
-  over-read = over_is (flag a) (wa a) (wb a) sum summed c.sum-at.ensures.1
+  over-read = over_is (flag a) (wa a) (wb a) sum summed c.sum_at-s.ensures.1
 
-is-outside-requires : tie.Need-is-outside-requires invariant-loop decreases-loop
+is-outside-requires : tie.Need-is_outside-requires invariant-loop decreases-loop
 is-outside-requires c κs = search rules
 
-either-requires : tie.Need-either-requires invariant-loop decreases-loop
+either-requires : tie.Need-either-over-requires invariant-loop decreases-loop
 either-requires c κs = search rules
 
-add-ia : tie.Need-overflow-add-ia invariant-loop decreases-loop
+add-ia : tie.Need-overflow_add-ia invariant-loop decreases-loop
 add-ia c =
-    let a = c.before.before.before in
-    record { fits = omega (arith, few a, (l a).loop.invariant.1, first_within (q a) (r a) (i a)) }
+    let a = c in
+    record { fits = omega (arith, few a.before.before.before, (l a.before.before.before).loop-i.invariant.1, first_within (q a.before.before.before) (r a.before.before.before) (i a.before.before.before)) }
 
-add-ib : tie.Need-overflow-add-ib invariant-loop decreases-loop
+add-ib : tie.Need-overflow_add-ib invariant-loop decreases-loop
 add-ib c =
-    let a = c.before.before.before in
-    record { fits = omega (arith, few a, (flag a).low, (l a).loop.invariant.2, second_within (q a) (r a) (i a)) }
+    let a = c in
+    record { fits = omega (arith, few a.before.before.before, (flag a.before.before.before).low, (l a.before.before.before).loop-i.invariant.2, second_within (q a.before.before.before) (r a.before.before.before) (i a.before.before.before)) }
 
-add-i : tie.Need-overflow-add-i invariant-loop decreases-loop
-add-i c = let a = c.before.before.before in record { fits = omega (arith, few a) }
+add-i : tie.Need-overflow_add-i invariant-loop decreases-loop
+add-i c = let a = c in record { fits = omega (arith, few a.before.before.before) }
 
-loop-less : tie.Need-loop-smaller invariant-loop decreases-loop
+loop-less : tie.Need-loop-i-smaller invariant-loop decreases-loop
 loop-less c = omega (arith, more c.before.before.before)
 
-loop-again : tie.Need-loop-preserved invariant-loop decreases-loop
+loop-again : tie.Need-loop-i-preserved invariant-loop decreases-loop
 loop-again c =
-    let m = c.before.before in
-    let a = m.before in
-    rw (add-one (i a)) (
-      more a,
-      omega (arith, (l a).loop.invariant.1, first_next (flag a)),
-      omega (arith, (l a).loop.invariant.2, second_next (flag a)),
-      c.either.ensures ∙ ap₂ ◌||◌ (l a).loop.invariant.3 (c.before.is-outside.ensures ∙ ap outside (sum-read m) ∙ over-read m) ∙ sym (below_more (over_at (q a) (r a) (wa a) (wb a)) (i a)),
+    let m = c in
+    let a = m in
+    rw (add-one (i a.before.before.before)) (
+      more a.before.before.before,
+      omega (arith, (l a.before.before.before).loop-i.invariant.1, first_next (flag a.before.before.before)),
+      omega (arith, (l a.before.before.before).loop-i.invariant.2, second_next (flag a.before.before.before)),
+      c.either-over.ensures ∙ ap₂ ◌||◌ (l a.before.before.before).loop-i.invariant.3 (c.is_outside.ensures ∙ ap outside (sum-read m.before.before) ∙ over-read m.before.before) ∙ sym (below_more (over_at (q a.before.before.before) (r a.before.before.before) (wa a.before.before.before) (wb a.before.before.before)) (i a.before.before.before)),
     )
 
 returns : tie.Need-returns invariant-loop decreases-loop
 returns c =
-    let l = c.before in
-    let e : l.loop.i ≡ (start l).args.n = omega (arith, c.loop-test.false, l.loop.invariant.0) in
-    rw e at l.loop.invariant.3
+    let l = c in
+    let e : l.loop-i.i ≡ (start l.before).args.n = omega (arith, c.loop-i-test.false, l.loop-i.invariant.0) in
+    rw e at l.loop-i.invariant.3
 
-pub any-outside-spec : {M : Type 1} → statement M
-any-outside-spec =
+pub any_outside_spec : {M : Type 1} → statement M
+any_outside_spec =
     tie.close
     (tie.spec
     invariant-loop

@@ -6,41 +6,41 @@ use Rattle.weights.proofs.Joins.{rooms_for}
 use Rattle.weights.proofs.join_large.Statement.{statement}
 use Rattle.weights.proofs.join_large.Tie as tie
 
-tallies-requires : tie.Need-tallies-requires
+tallies-requires : tie.Need-tallies-t-requires
 tallies-requires c κs = search rules
 
-large-queue-requires : tie.Need-large-queue-requires
+large-queue-requires : tie.Need-large_queue-q-requires
 large-queue-requires c κs = search rules
 
-large-edges-requires : tie.Need-large-edges-requires
+large-edges-requires : tie.Need-large_edges-edges-requires
 large-edges-requires c κs = search rules
 
-slice-aggregate-join-with : tie.Need-slice-aggregate-join-with
+slice-aggregate-join-with : tie.Need-slice_bounds-join_with-end
 slice-aggregate-join-with c = search rules
 
-slice-aggregate-join-with-2 : tie.Need-slice-aggregate-join-with-2
+slice-aggregate-join-with-2 : tie.Need-slice_bounds-join_with-end-2
 slice-aggregate-join-with-2 c = search rules
 
-slice-aggregate-join-with-3 : tie.Need-slice-aggregate-join-with-3
+slice-aggregate-join-with-3 : tie.Need-slice_bounds-join_with-end-3
 slice-aggregate-join-with-3 c = search rules
 
-join-with-requires : tie.Need-join-with-requires
+join-with-requires : tie.Need-join_with-requires
 join-with-requires c κs =
-    let t = c.before.before.before.before.before.before.before in
-    let s = t.before.before.before.before in
-    (rooms_for large (length s.args.a.now) (length s.args.b.now) _ _ (omega arith) (λ b i j. omega (arith, j)) (λ b i j. omega (arith, j)) c.before.before.before.before.before.before.large-queue.ensures c.before.before.before.before.before.large-edges.ensures, t.tallies.ensures)
+    let t = c in
+    let s = t in
+    (rooms_for large (length s.args.a.now) (length s.args.b.now) _ _ (omega arith) (λ b i j. omega (arith, j)) (λ b i j. omega (arith, j)) c.large_queue-q.ensures c.large_edges-edges.ensures, t.tallies-t.ensures)
 
-same_length : tie.Need-same-length
+same_length : tie.Need-shape_of-out
 same_length c = search rules
 
-same-length-2 : tie.Need-same-length-2
+same-length-2 : tie.Need-shape_of-list
 same-length-2 c = search rules
 
 returns : tie.Need-returns
 returns c = search rules
 
-pub join-large-spec : {M : Type 1} → statement M
-join-large-spec =
+pub join_large_spec : {M : Type 1} → statement M
+join_large_spec =
     tie.close
     (tie.spec
     tallies-requires

@@ -6,41 +6,41 @@ use Rattle.weights.proofs.Joins.{rooms_for}
 use Rattle.weights.proofs.join_small.Statement.{statement}
 use Rattle.weights.proofs.join_small.Tie as tie
 
-tallies-requires : tie.Need-tallies-requires
+tallies-requires : tie.Need-tallies-t-requires
 tallies-requires c κs = search rules
 
-small-queue-requires : tie.Need-small-queue-requires
+small-queue-requires : tie.Need-small_queue-q-requires
 small-queue-requires c κs = search rules
 
-small-edges-requires : tie.Need-small-edges-requires
+small-edges-requires : tie.Need-small_edges-edges-requires
 small-edges-requires c κs = search rules
 
-slice-aggregate-join-with : tie.Need-slice-aggregate-join-with
+slice-aggregate-join-with : tie.Need-slice_bounds-join_with-end
 slice-aggregate-join-with c = search rules
 
-slice-aggregate-join-with-2 : tie.Need-slice-aggregate-join-with-2
+slice-aggregate-join-with-2 : tie.Need-slice_bounds-join_with-end-2
 slice-aggregate-join-with-2 c = search rules
 
-slice-aggregate-join-with-3 : tie.Need-slice-aggregate-join-with-3
+slice-aggregate-join-with-3 : tie.Need-slice_bounds-join_with-end-3
 slice-aggregate-join-with-3 c = search rules
 
-join-with-requires : tie.Need-join-with-requires
+join-with-requires : tie.Need-join_with-requires
 join-with-requires c κs =
-    let t = c.before.before.before.before.before.before.before in
-    let s = t.before.before.before.before in
-    (rooms_for small (length s.args.a.now) (length s.args.b.now) _ _ (omega arith) (λ b i j. omega (arith, i, s.requires.0)) (λ b i j. omega (arith, i, s.requires.1)) c.before.before.before.before.before.before.small-queue.ensures c.before.before.before.before.before.small-edges.ensures, t.tallies.ensures)
+    let t = c in
+    let s = t in
+    (rooms_for small (length s.args.a.now) (length s.args.b.now) _ _ (omega arith) (λ b i j. omega (arith, i, s.requires.0)) (λ b i j. omega (arith, i, s.requires.1)) c.small_queue-q.ensures c.small_edges-edges.ensures, t.tallies-t.ensures)
 
-same_length : tie.Need-same-length
+same_length : tie.Need-shape_of-out
 same_length c = search rules
 
-same-length-2 : tie.Need-same-length-2
+same-length-2 : tie.Need-shape_of-list
 same-length-2 c = search rules
 
 returns : tie.Need-returns
 returns c = search rules
 
-pub join-small-spec : {M : Type 1} → statement M
-join-small-spec =
+pub join_small_spec : {M : Type 1} → statement M
+join_small_spec =
     tie.close
     (tie.spec
     tallies-requires

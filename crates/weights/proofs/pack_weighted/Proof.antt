@@ -7,55 +7,55 @@ use Rattle.weights.proofs.pack_weighted.Statement.{statement}
 use Rattle.weights.proofs.pack_weighted.Tie as tie
 
 -- the batch was planned, or refused
-module _ (p : tie.After-plan) where
+module _ (p : tie.After-plan-planned) where
   abbrev start : tie.Start
   start = p.before.before.before.before.before
 
   abbrev Says : Verdict → Type 0
-  Says = Planned start.args.m start.args.batch.now p.plan.last.1.1.0
+  Says = Planned start.args.m start.args.batch.now p.plan-planned.new.levels
 
-no-records-requires : tie.Need-no-records-requires
+no-records-requires : tie.Need-no_records-levels-requires
 no-records-requires c κs = search rules
 
-slice-aggregate-plan : tie.Need-slice-aggregate-plan
+slice-aggregate-plan : tie.Need-slice_bounds-plan-end
 slice-aggregate-plan c = search rules
 
-plan-requires : tie.Need-plan-requires
+plan-requires : tie.Need-plan-planned-requires
 plan-requires c κs = search rules
 
-enum-known-planned : tie.Need-enum-known-planned
+enum-known-planned : tie.Need-enum_known-planned
 enum-known-planned c = search rules
 
-enum-known-planned-2 : tie.Need-enum-known-planned-2
+enum-known-planned-2 : tie.Need-enum_known-planned-in-Accepted-1
 enum-known-planned-2 c = search rules
 
-slice-aggregate-write-packed : tie.Need-slice-aggregate-write-packed
+slice-aggregate-write-packed : tie.Need-slice_bounds-write_packed-end
 slice-aggregate-write-packed c = search rules
 
-write-packed-requires : tie.Need-write-packed-requires
+write-packed-requires : tie.Need-write_packed-requires
 write-packed-requires c κs =
-    let k = c.before.before.before in
-    let p = k.before.before.before.before in
-    let h = subst (Says p) k.before.planned2.given.1 p.plan.ensures in
-    (h.0, h.1, p.plan.auto.1.1.0 ∙ p.before.before.no-records.ensures.long)
+    let k = c in
+    let p = k in
+    let h = subst (Says p.before.before.before.before.before) k.in-Accepted.is p.plan-planned.ensures in
+    (h.0, h.1, p.plan-planned.auto.levels ∙ p.no_records-levels.ensures.long)
 
-returns : tie.Need-returns
+returns : tie.Need-returns-in-Refused
 returns c =
-    let p = c.before.before.before.before in
-    let s = start p in
-    sym (weighted_refused s.args.m s.args.batch.now s.args.out.now s.args.list.now c.before.planned.given.0.0 (subst (Says p) c.before.planned.given.1 p.plan.ensures))
+    let p = c in
+    let s = start p.before.before in
+    sym (weighted_refused s.args.m s.args.batch.now s.args.out.now s.args.list.now c.in-Refused.k (subst (Says p.before.before) c.in-Refused.is p.plan-planned.ensures))
 
-same_length : tie.Need-same-length
+same_length : tie.Need-shape_of-out
 same_length c = search rules
 
-same-length-2 : tie.Need-same-length-2
+same-length-2 : tie.Need-shape_of-list
 same-length-2 c = search rules
 
-returns-2 : tie.Need-returns-2
+returns-2 : tie.Need-returns-in-Accepted
 returns-2 c = search rules
 
-pub pack-weighted-spec : {M : Type 1} → statement M
-pack-weighted-spec =
+pub pack_weighted_spec : {M : Type 1} → statement M
+pack_weighted_spec =
     tie.close
     (tie.spec
     no-records-requires

@@ -15,20 +15,20 @@ use borrow.Author.Rules.{rules}
 use Rattle.weights.proofs.post_at.Statement.{statement}
 use Rattle.weights.proofs.post_at.Tie as tie
 
-mul-old : tie.Need-overflow-mul-old
+mul-old : tie.Need-offset_bounds-list-k
 mul-old c = search rules
 
-slice-copy-out-old : tie.Need-slice-copy-out-old
+slice-copy-out-old : tie.Need-slice_copy_out-old
 slice-copy-out-old c = search rules
 
-sum-requires : tie.Need-sum-requires
+sum-requires : tie.Need-sum-s-requires
 sum-requires c κs = search rules
 
-is-outside-requires : tie.Need-is-outside-requires
+is-outside-requires : tie.Need-is_outside-requires
 is-outside-requires c κs = search rules
 
 -- the sum and its test are of the entry and the amount themselves
-module _ (v : tie.After-is-outside) where
+module _ (v : tie.After-is_outside) where
   abbrev s : tie.Start
   s = v.before.before.before
 
@@ -41,47 +41,47 @@ module _ (v : tie.After-is-outside) where
   abbrev sum : ℤ
   sum = get_or ws k no_weight +ℤ s.args.amount
 
-  summed : v.before.sum.result ≡ sum
+  summed : v.sum-s.result ≡ sum
   summed =
-      v.before.sum.ensures
-      ∙ ap₂ ◌+ℤ◌ (to_z-of_z {w = w32} {z = get_or ws k no_weight} (record { sfits = v.before.before.old.given })) (to_z-of_z s.fits.amount)
+      v.sum-s.ensures
+      ∙ ap₂ ◌+ℤ◌ (to_z-of_z {w = w32} {z = get_or ws k no_weight} (record { sfits = v.old-1.given })) (to_z-of_z s.fits.amount)
 
-  sum-read : to_z w64 (of_z w64 v.before.sum.result) ≡ sum
-  sum-read = to_z-of_z {w = w64} {z = v.before.sum.result} (record { sfits = v.before.sum.ok }) ∙ summed
+  sum-read : to_z w64 (of_z w64 v.sum-s.result) ≡ sum
+  sum-read = to_z-of_z {w = w64} {z = v.sum-s.result} (record { sfits = v.sum-s.ok }) ∙ summed
 
-  tested : v.is-outside.result ≡ outside sum
-  tested = v.is-outside.ensures ∙ ap outside sum-read
+  tested : v.is_outside.result ≡ outside sum
+  tested = v.is_outside.ensures ∙ ap outside sum-read
 
-returns : tie.Need-returns
+returns : tie.Need-returns-then-is_outside
 unfolding posted_at
 returns c =
-    let e : outside (sum c.before) ≡ true = sym (tested c.before) ∙ c.if1.true in
+    let e : outside (sum c.before) ≡ true = sym (tested c.before) ∙ c.if-is_outside.true in
     rw e
 
-inside : (c : tie.Else1) → outside (sum c.before) ≡ false
-inside c = sym (tested c.before) ∙ c.if1.false
+inside : (c : tie.Else-is_outside) → outside (sum c.before) ≡ false
+inside c = sym (tested c.before) ∙ c.if-is_outside.false
 
-cast-list : tie.Need-overflow-cast-list
+cast-list : tie.Need-overflow_cast-list
 cast-list c = rw (sum-read c.before) (inside_fits (sum c.before) (inside c))
 
-mul-t6 : tie.Need-overflow-mul-t6
+mul-t6 : tie.Need-offset_bounds-list-k-2
 mul-t6 c = search rules
 
-slice-set-from-list : tie.Need-slice-set-from-list
+slice-set-from-list : tie.Need-bounds-list-k
 slice-set-from-list c = search rules
 
-same_length : tie.Need-same-length
+same_length : tie.Need-shape_of-list
 same_length c = search rules
 
-returns-2 : tie.Need-returns-2
+returns-2 : tie.Need-returns
 unfolding posted_at
 returns-2 c =
-    let v = c.before in
-    let e : outside (sum v) ≡ false = inside c in
-    ap (λ (z : ℤ). leaving is_posted [] (set (ws v) (k v) z)) (ap (λ (z : ℤ). to_z w32 (of_z w32 z)) (sum-read v) ∙ to_z-of_z (inside_fits (sum v) e)) ∙ sym (rw e)
+    let v = c in
+    let e : outside (sum v.before) ≡ false = inside c in
+    ap (λ (z : ℤ). leaving is_posted [] (set (ws v.before) (k v.before) z)) (ap (λ (z : ℤ). to_z w32 (of_z w32 z)) (sum-read v.before) ∙ to_z-of_z (inside_fits (sum v.before) e)) ∙ sym (rw e)
 
-pub post-at-spec : {M : Type 1} → statement M
-post-at-spec =
+pub post_at_spec : {M : Type 1} → statement M
+post_at_spec =
     tie.close
     (tie.spec
     mul-old

@@ -27,63 +27,63 @@ module _ (s : tie.Start) where
   e = entry_in l
 
   counted : s.args.e.count ≡ count e
-  counted = s.pre.0.count
+  counted = s.requires.0.count
 
-returns : tie.Need-returns
+returns : tie.Need-returns-then-list-e
 returns c =
-    let s = c.before.before.before.before.before in
-    sym (post_wrong (e s) (ws s) (x s) s.args.amount (λ z. let y : ⊥ = omega (arith, z, counted s, c.if1.true) in y))
+    let s = c in
+    sym (post_wrong (e s.before.before.before.before.before) (ws s.before.before.before.before.before) (x s.before.before.before.before.before) s.args.amount (λ z. let y : ⊥ = omega (arith, z, counted s.before.before.before.before.before, c.if-list-e.true) in y))
 
-index-of-in-requires : tie.Need-index-of-in-requires
+index-of-in-requires : tie.Need-index_of_in-found-requires
 index-of-in-requires c κs = search rules
 
-enum-known-found : tie.Need-enum-known-found
+enum-known-found : tie.Need-enum_known-found
 enum-known-found c = search rules
 
-enum_told : tie.Need-enum-told
+enum_told : tie.Need-enum_told-1
 enum_told c = search rules
 
-enum-known-found-2 : tie.Need-enum-known-found-2
+enum-known-found-2 : tie.Need-enum_known-found-in-Index-1
 enum-known-found-2 c = search rules
 
 -- the list is as long as it should be, and the lookup says what a post does
-module _ (v : tie.After-index-of-in) where
+module _ (v : tie.After-index_of_in-found) where
   abbrev start : tie.Start
   start = v.before.before.before.before.before.before
 
   long : length (ws start) ≡ count (e start)
-  long = omega (arith, v.before.if1.left, counted start)
+  long = omega (arith, v.if-list-e.false, counted start)
 
-  found : Finds (e start) (x start) v.index-of-in.result
-  found = finds (e start) (x start) v.index-of-in.result v.index-of-in.ensures
+  found : Finds (e start) (x start) v.index_of_in-found.result
+  found = finds (e start) (x start) v.index_of_in-found.result v.index_of_in-found.ensures
 
-post-at-requires : tie.Need-post-at-requires
+post-at-requires : tie.Need-post_at-requires
 post-at-requires c κs =
-    let v = c.before.before.before.before in
-    let f = subst (Finds (e (start v)) (x (start v))) c.before.before.found2.given.1 (found v) in
-    omega (arith, f.0, long v)
+    let v = c in
+    let f = subst (Finds (e (start v.before.before)) (x (start v.before.before))) c.in-Index.is (found v.before.before) in
+    omega (arith, f.0, long v.before.before)
 
-returns-2 : tie.Need-returns-2
+returns-2 : tie.Need-returns-in-Refused
 returns-2 c =
-    let v = c.before.before.before in
-    sym (subst (Finds (e (start v)) (x (start v))) c.before.found.given.1 (found v) (ws (start v)) (start v).args.amount (long v))
+    let v = c in
+    sym (subst (Finds (e (start v.before)) (x (start v.before))) c.in-Refused.is (found v.before) (ws (start v.before)) (start v.before).args.amount (long v.before))
 
-returns-3 : tie.Need-returns-3
+returns-3 : tie.Need-returns-in-Absent
 returns-3 c =
-    let v = c.before.before in
-    sym (subst (Finds (e (start v)) (x (start v))) c.enum_told.given.1 (found v) (ws (start v)) (start v).args.amount (long v))
+    let v = c in
+    sym (subst (Finds (e (start v.before)) (x (start v.before))) c.in-Absent.is (found v.before) (ws (start v.before)) (start v.before).args.amount (long v.before))
 
-same_length : tie.Need-same-length
+same_length : tie.Need-shape_of-list
 same_length c = search rules
 
-returns-4 : tie.Need-returns-4
+returns-4 : tie.Need-returns-in-Index
 returns-4 c =
-    let v = c.before.before.before.before.before.before in
-    let f = subst (Finds (e (start v)) (x (start v))) c.before.before.before.before.found2.given.1 (found v) in
-    c.before.post-at.ensures ∙ ap (posted_at (ws (start v)) _) (to_z-of_z (start v).ranges.amount) ∙ sym (f.1 (ws (start v)) (start v).args.amount (long v))
+    let v = c in
+    let f = subst (Finds (e (start v.before.before.before.before)) (x (start v.before.before.before.before))) c.in-Index.is (found v.before.before.before.before) in
+    c.post_at.ensures ∙ ap (posted_at (ws (start v.before.before.before.before)) _) (to_z-of_z (start v.before.before.before.before).ranges.amount) ∙ sym (f.1 (ws (start v.before.before.before.before)) (start v.before.before.before.before).args.amount (long v.before.before.before.before))
 
-pub post-in-spec : {M : Type 1} → statement M
-post-in-spec =
+pub post_in_spec : {M : Type 1} → statement M
+post_in_spec =
     tie.close
     (tie.spec
     returns

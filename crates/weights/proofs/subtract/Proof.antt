@@ -29,86 +29,86 @@ module _ (s : tie.Start) where
   f = s.args.f
 
   abbrev p : Opens a e
-  p = s.pre.0.0
+  p = s.requires.0.0
 
   abbrev q : Opens b f
-  q = s.pre.0.1
+  q = s.requires.0.1
 
   abbrev same : e.width ≡ f.width
-  same = s.pre.0.2
+  same = s.requires.0.2
 
   first-room : e.edges ≤ length a
-  first-room = omega (arith, (opens_room a e p).edges)
+  first-room = omega (arith, (opens_room a e p).edges-1)
 
   second-room : f.edges ≤ length b
-  second-room = omega (arith, (opens_room b f q).edges)
+  second-room = omega (arith, (opens_room b f q).edges-1)
 
-returns : tie.Need-returns
+returns : tie.Need-returns-then-wa-e
 returns c =
-    let s = c.before.before.before.before.before.before.before.before in
-    sym (difference_wrong (entry_in (a s)) (entry_in (b s)) (alike (a s) (b s) (e s) (f s) (p s) (q s) (same s)) s.args.wa.now s.args.wa.now s.args.out.now s.args.list.now (λ z. c.if1.true (z ∙ sym (p s).count)))
+    let s = c in
+    sym (difference_wrong (entry_in (a s.before.before.before.before.before.before.before.before)) (entry_in (b s.before.before.before.before.before.before.before.before)) (alike (a s.before.before.before.before.before.before.before.before) (b s.before.before.before.before.before.before.before.before) (e s.before.before.before.before.before.before.before.before) (f s.before.before.before.before.before.before.before.before) (p s.before.before.before.before.before.before.before.before) (q s.before.before.before.before.before.before.before.before) (same s.before.before.before.before.before.before.before.before)) s.args.wa.now s.args.wa.now s.args.out.now s.args.list.now (λ z. c.if-wa-e.true (z ∙ sym (p s.before.before.before.before.before.before.before.before).count)))
 
-sub-subtracted : tie.Need-overflow-sub-subtracted
+sub-subtracted : tie.Need-slice_bounds-subtracted-count
 sub-subtracted c = first-room c.before.before.before.before.before.before.before.before
 
-part-subtracted-start : tie.Need-slice-bounds-subtracted-start
+part-subtracted-start : tie.Need-slice_bounds-subtracted-start
 part-subtracted-start c = let z = first-room c.before.before.before.before.before.before.before.before in search rules
 
-part-subtracted-end : tie.Need-slice-bounds-subtracted-end
+part-subtracted-end : tie.Need-slice_bounds-subtracted-end
 part-subtracted-end c = search rules
 
-sub-subtracted-2 : tie.Need-overflow-sub-subtracted-2
+sub-subtracted-2 : tie.Need-slice_bounds-subtracted-count-2
 sub-subtracted-2 c = second-room c.before.before.before.before.before.before.before.before.before
 
-part-subtracted-start-2 : tie.Need-slice-bounds-subtracted-start-2
+part-subtracted-start-2 : tie.Need-slice_bounds-subtracted-start-2
 part-subtracted-start-2 c = let z = second-room c.before.before.before.before.before.before.before.before.before in search rules
 
-part-subtracted-end-2 : tie.Need-slice-bounds-subtracted-end-2
+part-subtracted-end-2 : tie.Need-slice_bounds-subtracted-end-2
 part-subtracted-end-2 c = search rules
 
-subtracted-requires : tie.Need-subtracted-requires
+subtracted-requires : tie.Need-subtracted-d-requires
 subtracted-requires c κs =
-    let s = c.before.before.before.before.before.before.before.before.before.before.before.before in (
-      (first_holds join.Difference (a s) (b s) (e s) (f s) (p s) (q s) (same s), opens_over (a s) (e s) (p s)),
-      ((second_holds join.Difference (a s) (b s) (e s) (f s) (p s) (q s) (same s), opens_over (b s) (f s) (q s)), (s.requires.1.0, s.requires.1.1)),
+    let s = c in (
+      (first_holds join.Difference (a s.before.before.before.before.before.before.before.before.before.before.before.before) (b s.before.before.before.before.before.before.before.before.before.before.before.before) (e s.before.before.before.before.before.before.before.before.before.before.before.before) (f s.before.before.before.before.before.before.before.before.before.before.before.before) (p s.before.before.before.before.before.before.before.before.before.before.before.before) (q s.before.before.before.before.before.before.before.before.before.before.before.before) (same s.before.before.before.before.before.before.before.before.before.before.before.before), opens_over (a s.before.before.before.before.before.before.before.before.before.before.before.before) (e s.before.before.before.before.before.before.before.before.before.before.before.before) (p s.before.before.before.before.before.before.before.before.before.before.before.before)),
+      ((second_holds join.Difference (a s.before.before.before.before.before.before.before.before.before.before.before.before) (b s.before.before.before.before.before.before.before.before.before.before.before.before) (e s.before.before.before.before.before.before.before.before.before.before.before.before) (f s.before.before.before.before.before.before.before.before.before.before.before.before) (p s.before.before.before.before.before.before.before.before.before.before.before.before) (q s.before.before.before.before.before.before.before.before.before.before.before.before) (same s.before.before.before.before.before.before.before.before.before.before.before.before), opens_over (b s.before.before.before.before.before.before.before.before.before.before.before.before) (f s.before.before.before.before.before.before.before.before.before.before.before.before) (q s.before.before.before.before.before.before.before.before.before.before.before.before)), (s.requires.1.0, s.requires.1.1)),
     )
 
-write-difference-requires : tie.Need-write-difference-requires
+write-difference-requires : tie.Need-write_difference-requires
 write-difference-requires c κs =
-    let d = c.before.before.before.before.before.before.before.before in
-    let s = d.before.before.before.before.before.before.before.before.before.before.before.before.before in
-    let r = d.subtracted.result in (
+    let d = c in
+    let s = d in
+    let r = d.subtracted-d.result in (
       (
-        difference_joined (a s) (b s) (e s) (f s) (p s) (q s) (same s) s.args.q.now s.args.edges.now _ _ r.edges r.flags.0 r.flagged d.subtracted.ensures,
-        difference_flags (a s) (b s) (e s) (f s) (p s) (q s) (same s) s.args.q.now s.args.edges.now _ _ r.edges r.flags.0 r.flagged d.subtracted.ensures s.requires.1.0.small,
+        difference_joined (a s.before.before.before.before.before.before.before.before.before.before.before.before.before.before.before.before.before.before.before) (b s.before.before.before.before.before.before.before.before.before.before.before.before.before.before.before.before.before.before.before) (e s.before.before.before.before.before.before.before.before.before.before.before.before.before.before.before.before.before.before.before) (f s.before.before.before.before.before.before.before.before.before.before.before.before.before.before.before.before.before.before.before) (p s.before.before.before.before.before.before.before.before.before.before.before.before.before.before.before.before.before.before.before) (q s.before.before.before.before.before.before.before.before.before.before.before.before.before.before.before.before.before.before.before) (same s.before.before.before.before.before.before.before.before.before.before.before.before.before.before.before.before.before.before.before) s.args.q.now s.args.edges.now _ _ r.edges r.flags.0 r.flagged d.subtracted-d.ensures,
+        difference_flags (a s.before.before.before.before.before.before.before.before.before.before.before.before.before.before.before.before.before.before.before) (b s.before.before.before.before.before.before.before.before.before.before.before.before.before.before.before.before.before.before.before) (e s.before.before.before.before.before.before.before.before.before.before.before.before.before.before.before.before.before.before.before) (f s.before.before.before.before.before.before.before.before.before.before.before.before.before.before.before.before.before.before.before) (p s.before.before.before.before.before.before.before.before.before.before.before.before.before.before.before.before.before.before.before) (q s.before.before.before.before.before.before.before.before.before.before.before.before.before.before.before.before.before.before.before) (same s.before.before.before.before.before.before.before.before.before.before.before.before.before.before.before.before.before.before.before) s.args.q.now s.args.edges.now _ _ r.edges r.flags.0 r.flagged d.subtracted-d.ensures s.requires.1.0.small,
         s.requires.1.2,
       ),
-      difference_count (a s) (b s) (e s) (f s) (p s) (q s) (same s) s.args.q.now s.args.edges.now _ _ r.edges r.flags.0 r.flagged d.subtracted.ensures s.args.wa.now,
+      difference_count (a s.before.before.before.before.before.before.before.before.before.before.before.before.before.before.before.before.before.before.before) (b s.before.before.before.before.before.before.before.before.before.before.before.before.before.before.before.before.before.before.before) (e s.before.before.before.before.before.before.before.before.before.before.before.before.before.before.before.before.before.before.before) (f s.before.before.before.before.before.before.before.before.before.before.before.before.before.before.before.before.before.before.before) (p s.before.before.before.before.before.before.before.before.before.before.before.before.before.before.before.before.before.before.before) (q s.before.before.before.before.before.before.before.before.before.before.before.before.before.before.before.before.before.before.before) (same s.before.before.before.before.before.before.before.before.before.before.before.before.before.before.before.before.before.before.before) s.args.q.now s.args.edges.now _ _ r.edges r.flags.0 r.flagged d.subtracted-d.ensures s.args.wa.now,
     )
 
-same_length : tie.Need-same-length
+same_length : tie.Need-shape_of-q
 same_length c = search rules
 
-same-length-2 : tie.Need-same-length-2
+same-length-2 : tie.Need-shape_of-edges
 same-length-2 c = search rules
 
-same-length-3 : tie.Need-same-length-3
+same-length-3 : tie.Need-shape_of-out
 same-length-3 c = search rules
 
-same-length-4 : tie.Need-same-length-4
+same-length-4 : tie.Need-shape_of-list
 same-length-4 c = search rules
 
-returns-2 : tie.Need-returns-2
+returns-2 : tie.Need-returns
 returns-2 c =
-    let w = c.before.before.before in
-    let d = w.before.before.before.before.before.before.before.before.before in
-    let s = d.before.before.before.before.before.before.before.before.before.before.before.before.before in
-    let r = d.subtracted.result in
-    w.write-difference.ensures
-    ∙ difference_call (a s) (b s) (e s) (f s) (p s) (q s) (same s) s.args.q.now s.args.edges.now _ _ r.edges r.flags.0 r.flagged d.subtracted.ensures s.args.wa.now s.args.out.now s.args.list.now (d.before.before.before.before.before.if1.false ∙ (p s).count)
+    let w = c in
+    let d = w in
+    let s = d in
+    let r = d.subtracted-d.result in
+    w.write_difference.ensures
+    ∙ difference_call (a s.before.before.before.before.before.before.before.before.before.before.before.before.before.before.before.before.before.before.before.before.before.before.before) (b s.before.before.before.before.before.before.before.before.before.before.before.before.before.before.before.before.before.before.before.before.before.before.before) (e s.before.before.before.before.before.before.before.before.before.before.before.before.before.before.before.before.before.before.before.before.before.before.before) (f s.before.before.before.before.before.before.before.before.before.before.before.before.before.before.before.before.before.before.before.before.before.before.before) (p s.before.before.before.before.before.before.before.before.before.before.before.before.before.before.before.before.before.before.before.before.before.before.before) (q s.before.before.before.before.before.before.before.before.before.before.before.before.before.before.before.before.before.before.before.before.before.before.before) (same s.before.before.before.before.before.before.before.before.before.before.before.before.before.before.before.before.before.before.before.before.before.before.before) s.args.q.now s.args.edges.now _ _ r.edges r.flags.0 r.flagged d.subtracted-d.ensures s.args.wa.now s.args.out.now s.args.list.now (d.if-wa-e.false ∙ (p s.before.before.before.before.before.before.before.before.before.before.before.before.before.before.before.before.before.before.before.before.before.before.before).count)
 
-pub subtract-spec : {M : Type 1} → statement M
-subtract-spec =
+pub subtract_spec : {M : Type 1} → statement M
+subtract_spec =
     tie.close
     (tie.spec
     returns

@@ -10,13 +10,13 @@ use Rattle.weights.proofs.sum.Tie as tie
 wide : (x : ℤ) → SFits w32 x → SFits w64 x
 wide x p = sfits_widen tt p
 
-cast-result : tie.Need-overflow-cast-result
+cast-result : tie.Need-overflow_cast-result
 cast-result c = rw (to_z-of_z c.ranges.a) (wide c.args.a c.ranges.a)
 
-cast-result-2 : tie.Need-overflow-cast-result-2
+cast-result-2 : tie.Need-overflow_cast-result-2
 cast-result-2 c = rw (to_z-of_z c.ranges.b) (wide c.args.b c.ranges.b)
 
-add-result : tie.Need-overflow-add-result
+add-result : tie.Need-overflow_add-result
 add-result c =
     rw (to_z-of_z c.ranges.a, to_z-of_z c.ranges.b, to_z-of_z (wide c.args.a c.ranges.a), to_z-of_z (wide c.args.b c.ranges.b))
     (sum_fits c.args.a c.args.b c.ranges.a c.ranges.b)
@@ -25,5 +25,5 @@ returns : tie.Need-returns
 returns c =
     rw (to_z-of_z c.ranges.a, to_z-of_z c.ranges.b, to_z-of_z (wide c.args.a c.ranges.a), to_z-of_z (wide c.args.b c.ranges.b), to_z-of_z (sum_fits c.args.a c.args.b c.ranges.a c.ranges.b))
 
-pub sum-spec : {M : Type 1} → statement M
-sum-spec = tie.close (tie.spec cast-result cast-result-2 add-result returns)
+pub sum_spec : {M : Type 1} → statement M
+sum_spec = tie.close (tie.spec cast-result cast-result-2 add-result returns)

@@ -13,10 +13,10 @@ use borrow.Author.Rules.{rules}
 use Rattle.weights.proofs.sum_at.Statement.{statement}
 use Rattle.weights.proofs.sum_at.Tie as tie
 
-weight-if-requires : tie.Need-weight-if-requires
+weight-if-requires : tie.Need-weight_if-x-requires
 weight-if-requires c κs = search rules
 
-weight-if-requires-2 : tie.Need-weight-if-requires-2
+weight-if-requires-2 : tie.Need-weight_if-y-requires
 weight-if-requires-2 c κs = search rules
 
 sum-requires : tie.Need-sum-requires
@@ -24,16 +24,16 @@ sum-requires c κs = search rules
 
 module _ (c : tie.After-sum) where
   abbrev x : ℤ
-  x = c.before.before.weight-if.result
+  x = c.weight_if-x.result
 
   abbrev y : ℤ
-  y = c.before.weight-if2.result
+  y = c.weight_if-y.result
 
   x_fits : SFits w32 x
-  x_fits = record { sfits = c.before.before.weight-if.type-inv }
+  x_fits = record { sfits = c.weight_if-x.type-inv }
 
   y-fits : SFits w32 y
-  y-fits = record { sfits = c.before.weight-if2.type-inv }
+  y-fits = record { sfits = c.weight_if-y.type-inv }
 
   summed : to_z w64 (of_z w64 c.sum.result) ≡ x +ℤ y
   summed =
@@ -48,13 +48,13 @@ single false b wa wb i j x y p q f g h = ap (λ z. outside (z +ℤ y)) p ∙ ap 
 
 returns : tie.Need-returns
 returns c =
-    let s = c.before.before.before in (
-      summed c ∙ ap₂ ◌+ℤ◌ c.before.before.weight-if.ensures c.before.weight-if2.ensures,
+    let s = c in (
+      summed c ∙ ap₂ ◌+ℤ◌ c.weight_if-x.ensures c.weight_if-y.ensures,
       λ h.
           ap outside (summed c)
           ∙ single (odd s.args.f) (odd (s.args.f / 2)) s.args.wa.now s.args.wb.now s.args.ia s.args.ib (x c) (y c)
-          c.before.before.weight-if.ensures c.before.weight-if2.ensures (x_fits c) (y-fits c) h,
+          c.weight_if-x.ensures c.weight_if-y.ensures (x_fits c) (y-fits c) h,
     )
 
-pub sum-at-spec : {M : Type 1} → statement M
-sum-at-spec = tie.close (tie.spec weight-if-requires weight-if-requires-2 sum-requires returns)
+pub sum_at_spec : {M : Type 1} → statement M
+sum_at_spec = tie.close (tie.spec weight-if-requires weight-if-requires-2 sum-requires returns)

@@ -10,21 +10,21 @@ use Rattle.weights.specs.Lists.{taken}
 use Rattle.weights.proofs.weight_if.Statement.{statement}
 use Rattle.weights.proofs.weight_if.Tie as tie
 
-weight-at-requires : tie.Need-weight-at-requires
+weight-at-requires : tie.Need-weight_at-x-requires
 weight-at-requires c κs = search rules
 
-returns : tie.Need-returns
+returns : tie.Need-returns-then-f-eq1
 unfolding taken
 returns c =
-    let e = c.before in
-    let o : odd e.before.args.f ≡ true = unfold odd in rw c.if1.true in
-    to_z-of_z {w = w32} {z = e.weight-at.result} (record { sfits = e.weight-at.type-inv }) ∙ e.weight-at.ensures ∙ rw o
+    let e = c in
+    let o : odd e.args.f ≡ true = unfold odd in rw c.if-f-eq1.true in
+    to_z-of_z {w = w32} {z = e.weight_at-x.result} (record { sfits = e.weight_at-x.type-inv }) ∙ e.weight_at-x.ensures ∙ rw o
 
-returns-2 : tie.Need-returns-2
+returns-2 : tie.Need-returns-else-f-eq1
 unfolding taken
 returns-2 c =
-    let o : odd c.before.before.args.f ≡ false = unfold odd in ne_eqb (c.before.before.args.f % 2) 1 c.if1.false in
+    let o : odd c.args.f ≡ false = unfold odd in ne_eqb (c.args.f % 2) 1 c.if-f-eq1.false in
     rw o
 
-pub weight-if-spec : {M : Type 1} → statement M
-weight-if-spec = tie.close (tie.spec weight-at-requires returns returns-2)
+pub weight_if_spec : {M : Type 1} → statement M
+weight_if_spec = tie.close (tie.spec weight-at-requires returns returns-2)

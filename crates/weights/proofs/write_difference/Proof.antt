@@ -54,46 +54,46 @@ module _ (s : tie.Start) where
   kept = kept_to q r s.args.wa.now n
 
   bits : edge_count held ≡ k
-  bits = joined_bits m k s.args.edges.now s.pre.0.0
+  bits = joined_bits m k s.args.edges.now s.requires.0.0
 
   end : length (encode held) ≡ end_of m k
   end = held_length m k s.args.edges.now bits
 
 -- ---- Where 14 is told
-module _ (e : tie.After-either-short) where
-  abbrev counted : tie.After-members-of
+module _ (e : tie.After-either_short) where
+  abbrev counted : tie.After-members_of-n
   counted = e.before
 
-  abbrev sized : tie.After-bytes-for
-  sized = counted.before.before
+  abbrev sized : tie.After-bytes_for-held
+  sized = counted.before
 
   abbrev start : tie.Start
   start = sized.before.before.before.before.before.before
 
   abbrev left : ℕ
-  left = counted.members-of.result
+  left = counted.members_of-n.result
 
   few : edge_count (held start) ≤ max_edges
-  few = omega (arith, bits start, sized.before.if1.left)
+  few = omega (arith, bits start, sized.if-k-gt-MAX_EDGES.false)
 
   size : length (kept start) ≡ left
   size =
-      start.pre.1
-      ∙ sym (counted.members-of.ensures ∙ ap count (cut_held (m start) (k start) start.args.edges.now start.pre.0.0 sized.bytes-for.result sized.bytes-for.ensures.0))
+      start.requires.1
+      ∙ sym (counted.members_of-n.ensures ∙ ap count (cut_held (m start) (k start) start.args.edges.now start.requires.0.0 sized.bytes_for-held.result sized.bytes_for-held.ensures.0))
 
-  told : (ltb (length (xs start)) (length (encode (held start))) || ltb (length (ws start)) (length (kept start))) ≡ e.either-short.result
-  told = short_is (encode (held start)) (kept start) (ws start) (xs start) (end_of (m start) (k start)) left e.either-short.result (end start) size e.either-short.ensures
+  told : (ltb (length (xs start)) (length (encode (held start))) || ltb (length (ws start)) (length (kept start))) ≡ e.either_short.result
+  told = short_is (encode (held start)) (kept start) (ws start) (xs start) (end_of (m start) (k start)) left e.either_short.result (end start) size e.either_short.ensures
 
 -- ---- Both fit
-module _ (v : tie.Else2) where
-  abbrev told14 : tie.After-either-short
+module _ (v : tie.Else-either_short) where
+  abbrev told14 : tie.After-either_short
   told14 = v.before
 
   abbrev s : tie.Start
   s = start told14
 
   fits : (ltb (length (xs s)) (length (encode (held s))) || ltb (length (ws s)) (length (kept s))) ≡ false
-  fits = told told14 ∙ v.if2.left
+  fits = told told14 ∙ v.if-either_short.false
 
   room : length (encode (held s)) ≤ length (xs s)
   room = no_lt (length (xs s)) (length (encode (held s))) (neither (ltb (length (xs s)) (length (encode (held s)))) (ltb (length (ws s)) (length (kept s))) fits).0
@@ -101,73 +101,73 @@ module _ (v : tie.Else2) where
   list-room : left told14 ≤ length (ws s)
   list-room = omega (arith, size told14, no_lt (length (ws s)) (length (kept s)) (neither (ltb (length (xs s)) (length (encode (held s)))) (ltb (length (ws s)) (length (kept s))) fits).1)
 
-returns : tie.Need-returns
+returns : tie.Need-returns-then-k-gt-MAX_EDGES
 returns c =
-    let s = c.before.before.before.before.before in
-    sym (writes_large [] (held s) (kept s) (xs s) (ws s) (omega (arith, bits s, c.if1.true)))
+    let s = c in
+    sym (writes_large [] (held s.before.before.before.before.before) (kept s.before.before.before.before.before) (xs s.before.before.before.before.before) (ws s.before.before.before.before.before) (omega (arith, bits s.before.before.before.before.before, c.if-k-gt-MAX_EDGES.true)))
 
-bytes-for-requires : tie.Need-bytes-for-requires
+bytes-for-requires : tie.Need-bytes_for-held-requires
 bytes-for-requires c κs = search rules
 
-slice-aggregate-members-of : tie.Need-slice-aggregate-members-of
+slice-aggregate-members-of : tie.Need-slice_bounds-members_of-end
 slice-aggregate-members-of c =
-    let h = c.before in
-    let s = h.before.before.before.before.before.before in
-    sym (length-take-le h.bytes-for.result s.args.edges.now (cut_fits (m s) (k s) s.args.edges.now s.requires.0.0 h.bytes-for.result h.bytes-for.ensures.0))
+    let h = c in
+    let s = h in
+    sym (length-take-le h.bytes_for-held.result s.args.edges.now (cut_fits (m s.before.before.before.before.before.before) (k s.before.before.before.before.before.before) s.args.edges.now s.requires.0.0 h.bytes_for-held.result h.bytes_for-held.ensures.0))
 
-members-of-requires : tie.Need-members-of-requires
+members-of-requires : tie.Need-members_of-n-requires
 unfolding started
 members-of-requires c κs =
-    let h = c.before in
-    let s = h.before.before.before.before.before.before in
-    let fits = cut_fits (m s) (k s) s.args.edges.now s.requires.0.0 h.bytes-for.result h.bytes-for.ensures.0 in (
-      (cut_sealed (m s) (k s) s.args.edges.now s.requires.0.0 h.bytes-for.result h.bytes-for.ensures.0 h.before.if1.false).holds,
+    let h = c in
+    let s = h in
+    let fits = cut_fits (m s.before.before.before.before.before.before) (k s.before.before.before.before.before.before) s.args.edges.now s.requires.0.0 h.bytes_for-held.result h.bytes_for-held.ensures.0 in (
+      (cut_sealed (m s.before.before.before.before.before.before) (k s.before.before.before.before.before.before) s.args.edges.now s.requires.0.0 h.bytes_for-held.result h.bytes_for-held.ensures.0 h.if-k-gt-MAX_EDGES.false).holds,
       s.requires.0.2,
-      omega (arith, length-take-le h.bytes-for.result s.args.edges.now fits, h.bytes-for.ensures.0, h.before.if1.false),
+      omega (arith, length-take-le h.bytes_for-held.result s.args.edges.now fits, h.bytes_for-held.ensures.0, h.if-k-gt-MAX_EDGES.false),
     )
 
-either-short-requires : tie.Need-either-short-requires
-either-short-requires c κs = let h = c.before.before in (h.before.before.before.before.before.before.requires.0.0.narrow, h.before.if1.false)
+either-short-requires : tie.Need-either_short-requires
+either-short-requires c κs = let h = c in (h.requires.0.0.narrow, h.if-k-gt-MAX_EDGES.false)
 
-returns-2 : tie.Need-returns-2
+returns-2 : tie.Need-returns-then-either_short
 returns-2 c =
-    let e = c.before in
-    let s = start e in
-    sym (writes_short [] (held s) (kept s) (xs s) (ws s) (few e) (told e ∙ c.if2.true))
+    let e = c in
+    let s = start e.before in
+    sym (writes_short [] (held s) (kept s) (xs s) (ws s) (few e.before) (told e.before ∙ c.if-either_short.true))
 
-slice-relend-prefix-write-kept : tie.Need-slice-relend-prefix-write-kept
-slice-relend-prefix-write-kept c = list-room c
+slice-relend-prefix-write-kept : tie.Need-slice_bounds-write_kept-end
+slice-relend-prefix-write-kept c = list-room c.before
 
-slice-aggregate-write-kept : tie.Need-slice-aggregate-write-kept
-slice-aggregate-write-kept c = let v = c.before in sym (length-take-le _ (ws (s v)) (list-room v))
+slice-aggregate-write-kept : tie.Need-slice_bounds-write_kept-end-2
+slice-aggregate-write-kept c = let v = c in sym (length-take-le _ (ws (s v.before.before)) (list-room v.before.before))
 
-write-kept-requires : tie.Need-write-kept-requires
+write-kept-requires : tie.Need-write_kept-requires
 write-kept-requires c κs =
-    let v = c.before in
-    ((s v).requires.0.1, length-take-le _ (ws (s v)) (list-room v) ∙ sym (size (told14 v)))
+    let v = c in
+    ((s v.before.before).requires.0.1, length-take-le _ (ws (s v.before.before)) (list-room v.before.before) ∙ sym (size (told14 v.before.before)))
 
-put-encoding-requires : tie.Need-put-encoding-requires
+put-encoding-requires : tie.Need-put_encoding-requires
 put-encoding-requires c κs =
-    let v = c.before.before.before.before in
-    ((s v).requires.0.0, (s v).requires.0.2, (sized (told14 v)).before.if1.left, omega (arith, room v, end (s v)))
+    let v = c in
+    ((s v.before.before.before.before.before).requires.0.0, (s v.before.before.before.before.before).requires.0.2, (sized (told14 v.before.before.before.before.before)).if-k-gt-MAX_EDGES.false, omega (arith, room v.before.before.before.before.before, end (s v.before.before.before.before.before)))
 
-same_length : tie.Need-same-length
+same_length : tie.Need-shape_of-out
 same_length c = search rules
 
-same-length-2 : tie.Need-same-length-2
+same-length-2 : tie.Need-shape_of-list
 same-length-2 c = search rules
 
-returns-3 : tie.Need-returns-3
+returns-3 : tie.Need-returns
 returns-3 c =
-    let put = c.before.before in
-    let w = put.before.before.before in
-    let v = w.before.before in
-    wrote_same (put.put-encoding.ensures.0 ∙ sym (end (s v))) put.put-encoding.ensures.1
-    (ap (λ l. l ++ drop (left (told14 v)) (ws (s v))) w.write-Kept.ensures ∙ part_front (left (told14 v)) (kept (s v)) (ws (s v)) (size (told14 v)))
-    ∙ sym (writes_fits [] (held (s v)) (kept (s v)) (xs (s v)) (ws (s v)) (few (told14 v)) (fits v) (unfold first_of in refl))
+    let put = c in
+    let w = put in
+    let v = w in
+    wrote_same (put.put_encoding.ensures.0 ∙ sym (end (s v.before.before.before.before.before.before.before.before))) put.put_encoding.ensures.1
+    (ap (λ l. l ++ drop (left (told14 v.before.before.before.before.before.before.before.before)) (ws (s v.before.before.before.before.before.before.before.before))) w.write_kept.ensures ∙ part_front (left (told14 v.before.before.before.before.before.before.before.before)) (kept (s v.before.before.before.before.before.before.before.before)) (ws (s v.before.before.before.before.before.before.before.before)) (size (told14 v.before.before.before.before.before.before.before.before)))
+    ∙ sym (writes_fits [] (held (s v.before.before.before.before.before.before.before.before)) (kept (s v.before.before.before.before.before.before.before.before)) (xs (s v.before.before.before.before.before.before.before.before)) (ws (s v.before.before.before.before.before.before.before.before)) (few (told14 v.before.before.before.before.before.before.before.before)) (fits v.before.before.before.before.before.before.before.before) (unfold first_of in refl))
 
-pub write-difference-spec : {M : Type 1} → statement M
-write-difference-spec =
+pub write_difference_spec : {M : Type 1} → statement M
+write_difference_spec =
     tie.close
     (tie.spec
     returns

@@ -38,86 +38,86 @@ module _ (s : tie.Start) where
   e = batch_entry m l
 
 -- the list is long enough, and pack answered
-module _ (w : tie.After-write-planned) where
+module _ (w : tie.After-write_planned-packed) where
   abbrev start : tie.Start
   start = w.before.before.before.before.before.before.before.before
 
   abbrev n : ℕ
-  n = w.before.before.before.before.count-members.result
+  n = w.count_members-n.result
 
   members : n ≡ count (e start)
-  members = w.before.before.before.before.count-members.ensures
+  members = w.count_members-n.ensures
 
   room : n ≤ length (ws start)
-  room = omega (arith, w.before.before.before.if1.left)
+  room = omega (arith, w.if-list-n.false)
 
   long-part : length (take n (ws start)) ≡ n
   long-part = length-take-le n (ws start) room
 
   abbrev new : Bytes
-  new = w.write-planned.last.1.1.1.1.0
+  new = w.write_planned-packed.new.out
 
   -- what was answered, with zeros in front of the list if it was accepted
-  packed : (r : Written) → w.write-planned.result ≡ r → with_zeros n (ws start) (written_outcome r new) ≡ pack_weighted_call (m start) (l start) (xs start) (ws start)
+  packed : (r : Written) → w.write_planned-packed.result ≡ r → with_zeros n (ws start) (written_outcome r new) ≡ pack_weighted_call (m start) (l start) (xs start) (ws start)
   packed r h =
-      ap (λ x. with_zeros n (ws start) (written_outcome x new)) (sym h) ∙ ap (with_zeros n (ws start)) w.write-planned.ensures
+      ap (λ x. with_zeros n (ws start) (written_outcome x new)) (sym h) ∙ ap (with_zeros n (ws start)) w.write_planned-packed.ensures
       ∙ ap (λ k. with_zeros k (ws start) (pack_call (m start) (l start) (xs start))) members
-      ∙ sym (weighted_as_packed (m start) (l start) (xs start) (ws start) start.pre.0.accepted (omega (arith, members, room)))
+      ∙ sym (weighted_as_packed (m start) (l start) (xs start) (ws start) start.requires.0.accepted (omega (arith, members, room)))
 
-count-members-requires : tie.Need-count-members-requires
+count-members-requires : tie.Need-count_members-n-requires
 count-members-requires c κs = search rules
 
-returns : tie.Need-returns
+returns : tie.Need-returns-then-list-n
 returns c =
-    let s = c.before.before.before.before.before in
-    sym (weighted_short (m s) (l s) (xs s) (ws s) s.requires.0.accepted (omega (arith, c.if1.true, c.before.count-members.ensures)))
+    let s = c in
+    sym (weighted_short (m s.before.before.before.before.before) (l s.before.before.before.before.before) (xs s.before.before.before.before.before) (ws s.before.before.before.before.before) s.requires.0.accepted (omega (arith, c.if-list-n.true, c.count_members-n.ensures)))
 
-write-planned-requires : tie.Need-write-planned-requires
+write-planned-requires : tie.Need-write_planned-packed-requires
 write-planned-requires c κs = search rules
 
-enum-known-packed : tie.Need-enum-known-packed
+enum-known-packed : tie.Need-enum_known-packed
 enum-known-packed c = search rules
 
-enum-known-packed-2 : tie.Need-enum-known-packed-2
+enum-known-packed-2 : tie.Need-enum_known-packed-in-Length-1
 enum-known-packed-2 c = search rules
 
-slice-relend-prefix-clear : tie.Need-slice-relend-prefix-clear
+slice-relend-prefix-clear : tie.Need-slice_bounds-clear-end
 slice-relend-prefix-clear c = search rules
 
-slice-aggregate-clear : tie.Need-slice-aggregate-clear
-slice-aggregate-clear c = sym (long-part c.before.before.before.before.before.before.before.before)
+slice-aggregate-clear : tie.Need-slice_bounds-clear-end-in-Length
+slice-aggregate-clear c = sym (long-part c.before.before.before.before.before.before)
 
 clear-requires : tie.Need-clear-requires
 clear-requires c κs = search rules
 
-same_length : tie.Need-same-length
+same_length : tie.Need-shape_of-levels-in-Refused
 same_length c = search rules
 
-same-length-2 : tie.Need-same-length-2
+same-length-2 : tie.Need-shape_of-out-in-Refused
 same-length-2 c = search rules
 
-returns-2 : tie.Need-returns-2
+returns-2 : tie.Need-returns-in-Refused
 unfolding written_outcome with_zeros changes
-returns-2 c = packed c.before.before.before.before.before.before.before (Refused _) c.before.packed.given.1
+returns-2 c = packed c.before.before.before.before.before (Refused _) c.in-Refused.is
 
-same-length-3 : tie.Need-same-length-3
+same-length-3 : tie.Need-shape_of-levels-in-Length
 same-length-3 c = search rules
 
-same-length-4 : tie.Need-same-length-4
+same-length-4 : tie.Need-shape_of-out-in-Length
 same-length-4 c = search rules
 
-same-length-5 : tie.Need-same-length-5
+same-length-5 : tie.Need-shape_of-list
 same-length-5 c = search rules
 
-returns-3 : tie.Need-returns-3
+returns-3 : tie.Need-returns-in-Length
 unfolding written_outcome with_zeros changes
 returns-3 c =
-    let w = c.before.before.before.before.before.before.before.before.before.before in
-    ap (leaving (wrote (_ ∷ [])) (new w ∷ [])) (ap (λ x. x ++ drop (n w) (ws (start w))) (c.before.clear.ensures ∙ ap zeros (long-part w)) ∙ part_front (n w) (zeros (n w)) (ws (start w)) (length_tabulate _ (n w)))
-    ∙ packed w (Length _) c.before.before.before.before.packed2.given.1
+    let w = c in
+    ap (leaving (wrote (_ ∷ [])) (new w.before.before.before.before.before.before.before.before ∷ [])) (ap (λ x. x ++ drop (n w.before.before.before.before.before.before.before.before) (ws (start w.before.before.before.before.before.before.before.before))) (c.clear.ensures ∙ ap zeros (long-part w.before.before.before.before.before.before.before.before)) ∙ part_front (n w.before.before.before.before.before.before.before.before) (zeros (n w.before.before.before.before.before.before.before.before)) (ws (start w.before.before.before.before.before.before.before.before)) (length_tabulate _ (n w.before.before.before.before.before.before.before.before)))
+    ∙ packed w.before.before.before.before.before.before.before.before (Length _) c.in-Length.is
 
-pub write-packed-spec : {M : Type 1} → statement M
-write-packed-spec =
+pub write_packed_spec : {M : Type 1} → statement M
+write_packed_spec =
     tie.close
     (tie.spec
     count-members-requires

@@ -20,28 +20,28 @@ use Rattle.weights.proofs.Ranges.{inside_fits}
 use Rattle.weights.proofs.write_sums.Statement.{statement}
 use Rattle.weights.proofs.write_sums.Tie as tie
 
-abbrev invariant-loop : tie.invariant-loop
+abbrev invariant-loop : tie.invariant-loop-i
 invariant-loop q r wa wb list₀ ia₀ ib₀ i₀ list ia ib i =
     (i ≤ length list₀) × (ia ≡ first_count (flags_from q r.0 i)) × (ib ≡ second_count (flags_from q r.0 i)) × (length list ≡ length list₀) × (take i list ≡ tabulate (sum_at q r.0 wa wb) i)
 
-abbrev decreases-loop : tie.decreases-loop
+abbrev decreases-loop : tie.decreases-loop-i
 decreases-loop q r wa wb list₀ ia₀ ib₀ i₀ list ia ib i = length list₀ - i
 
-abbrev start : tie.At-loop invariant-loop decreases-loop → tie.Start invariant-loop decreases-loop
+abbrev start : tie.At-loop-i invariant-loop decreases-loop → tie.Start invariant-loop decreases-loop
 start l = l.before.before
 
-loop-holds : tie.Need-loop-init invariant-loop decreases-loop
+loop-holds : tie.Need-loop-i-init invariant-loop decreases-loop
 unfolding flags_from tabulate first_count second_count
 loop-holds c = (omega arith, refl, refl, refl, refl)
 
-flag-at-requires : tie.Need-flag-at-requires invariant-loop decreases-loop
+flag-at-requires : tie.Need-flag_at-f-requires invariant-loop decreases-loop
 flag-at-requires c κs =
     let s = start c.before in
-    record { fits = omega (arith, s.pre.0.fits, c.loop-test.true, c.before.loop.invariant.3); small = s.pre.0.small }
+    record { fits = omega (arith, s.requires.0.fits, c.loop-i-test.true, c.loop-i.invariant.3); small = s.requires.0.small }
 
 -- the flag was read
-module _ (c : tie.After-flag-at invariant-loop decreases-loop) where
-  abbrev l : tie.At-loop invariant-loop decreases-loop
+module _ (c : tie.After-flag_at-f invariant-loop decreases-loop) where
+  abbrev l : tie.At-loop-i invariant-loop decreases-loop
   l = c.before.before
 
   abbrev s : tie.Start invariant-loop decreases-loop
@@ -60,103 +60,103 @@ module _ (c : tie.After-flag-at invariant-loop decreases-loop) where
   wb = s.args.wb.now
 
   abbrev i : ℕ
-  i = l.loop.i
+  i = l.loop-i.i
 
   abbrev f : ℕ
-  f = c.flag_at.result
+  f = c.flag_at-f.result
 
   more : i < length s.args.list.now
-  more = omega (arith, c.before.loop-test.true, l.loop.inv.3)
+  more = omega (arith, c.loop-i-test.true, l.loop-i.invariant.3)
 
   flag : FlagRead q r i f
-  flag = c.flag_at.ensures
+  flag = c.flag_at-f.ensures
 
   few : i < 4 * max_edges
-  few = omega (arith, s.pre.0.fits, s.pre.0.small, more)
+  few = omega (arith, s.requires.0.fits, s.requires.0.small, more)
 
-sum-at-requires : tie.Need-sum-at-requires invariant-loop decreases-loop
+sum-at-requires : tie.Need-sum_at-s-requires invariant-loop decreases-loop
 sum-at-requires c κs = search rules
 
-cast-ia : tie.Need-overflow-cast-ia invariant-loop decreases-loop
+cast-ia : tie.Need-overflow_cast-ia invariant-loop decreases-loop
 cast-ia c = record { fits = omega arith }
 
-cast-ib : tie.Need-overflow-cast-ib invariant-loop decreases-loop
+cast-ib : tie.Need-overflow_cast-ib invariant-loop decreases-loop
 cast-ib c = record { fits = omega arith }
 
 -- the sum is that of member i
-module _ (c : tie.After-sum-at invariant-loop decreases-loop) where
-  abbrev a : tie.After-flag-at invariant-loop decreases-loop
+module _ (c : tie.After-sum_at-s invariant-loop decreases-loop) where
+  abbrev a : tie.After-flag_at-f invariant-loop decreases-loop
   a = c.before
 
   abbrev sum : ℤ
-  sum = c.sum-at.result
+  sum = c.sum_at-s.result
 
   sum-read : to_z w64 (of_z w64 sum) ≡ sum
-  sum-read = to_z-of_z {w = w64} {z = sum} (record { sfits = c.sum-at.type-inv })
+  sum-read = to_z-of_z {w = w64} {z = sum} (record { sfits = c.sum_at-s.type-inv })
 
   summed : sum ≡ sum_at (q a) (r a) (wa a) (wb a) (i a)
   summed =
-      c.sum-at.ensures.0
-      ∙ ap₂ (λ x y. taken (odd (f a)) (wa a) x +ℤ taken (odd (f a / 2)) (wb a) y) (l a).loop.inv.1 (l a).loop.inv.2
+      c.sum_at-s.ensures.0
+      ∙ ap₂ (λ x y. taken (odd (f a)) (wa a) x +ℤ taken (odd (f a / 2)) (wb a) y) (l a).loop-i.invariant.1 (l a).loop-i.invariant.2
       ∙ sum_is (flag a) (wa a) (wb a)
 
   over-read : outside sum ≡ over_at (q a) (r a) (wa a) (wb a) (i a)
-  over-read = over_is (flag a) (wa a) (wb a) sum summed c.sum-at.ensures.1
+  over-read = over_is (flag a) (wa a) (wb a) sum summed c.sum_at-s.ensures.1
 
   inside : outside sum ≡ false
-  inside = over-read ∙ none_below (over_at (q a) (r a) (wa a) (wb a)) (length (s a).args.list.now) (i a) (s a).pre.1 (more a)
+  inside = over-read ∙ none_below (over_at (q a) (r a) (wa a) (wb a)) (length (s a).args.list.now) (i a) (s a).requires.1 (more a)
 
   -- what is stored
   stored : to_z w32 (of_z w32 (to_z w64 (of_z w64 sum))) ≡ sum_at (q a) (r a) (wa a) (wb a) (i a)
   stored = ap (λ (z : ℤ). to_z w32 (of_z w32 z)) sum-read ∙ to_z-of_z (inside_fits sum inside) ∙ summed
 
-cast-list : tie.Need-overflow-cast-list invariant-loop decreases-loop
+cast-list : tie.Need-overflow_cast-list invariant-loop decreases-loop
 cast-list c = rw (sum-read c) (inside_fits (sum c) (inside c))
 
-mul-t11 : tie.Need-overflow-mul-t11 invariant-loop decreases-loop
+mul-t11 : tie.Need-offset_bounds-list-i invariant-loop decreases-loop
 mul-t11 c = record { fits = omega (arith, few c.before) }
 
-slice-set-from-list : tie.Need-slice-set-from-list invariant-loop decreases-loop
-slice-set-from-list c = c.before.before.loop-test.true
+slice-set-from-list : tie.Need-bounds-list-i invariant-loop decreases-loop
+slice-set-from-list c = c.loop-i-test.true
 
-add-ia : tie.Need-overflow-add-ia invariant-loop decreases-loop
+add-ia : tie.Need-overflow_add-ia invariant-loop decreases-loop
 add-ia c =
-    let a = c.before in
-    record { fits = omega (arith, few a, (l a).loop.invariant.1, first_within (q a) (r a) (i a)) }
+    let a = c in
+    record { fits = omega (arith, few a.before, (l a.before).loop-i.invariant.1, first_within (q a.before) (r a.before) (i a.before)) }
 
-add-ib : tie.Need-overflow-add-ib invariant-loop decreases-loop
+add-ib : tie.Need-overflow_add-ib invariant-loop decreases-loop
 add-ib c =
-    let a = c.before in
-    record { fits = omega (arith, few a, (flag a).low, (l a).loop.invariant.2, second_within (q a) (r a) (i a)) }
+    let a = c in
+    record { fits = omega (arith, few a.before, (flag a.before).low, (l a.before).loop-i.invariant.2, second_within (q a.before) (r a.before) (i a.before)) }
 
-add-i : tie.Need-overflow-add-i invariant-loop decreases-loop
-add-i c = let a = c.before in record { fits = omega (arith, few a) }
+add-i : tie.Need-overflow_add-i invariant-loop decreases-loop
+add-i c = let a = c in record { fits = omega (arith, few a.before) }
 
-loop-less : tie.Need-loop-smaller invariant-loop decreases-loop
+loop-less : tie.Need-loop-i-smaller invariant-loop decreases-loop
 loop-less c = omega (arith, more c.before)
 
-loop-again : tie.Need-loop-preserved invariant-loop decreases-loop
+loop-again : tie.Need-loop-i-preserved invariant-loop decreases-loop
 loop-again c =
-    let a = c.before in
-    rw (add-one (i a)) (
-      more a,
-      omega (arith, (l a).loop.invariant.1, first_next (flag a)),
-      omega (arith, (l a).loop.invariant.2, second_next (flag a)),
-      simp length-set (l a).loop.invariant.3,
-      one_more (sum_at (q a) (r a) (wa a) (wb a)) (l a).loop.list (i a) _ a.before.loop-test.true (l a).loop.invariant.4 (stored c),
+    let a = c in
+    rw (add-one (i a.before)) (
+      more a.before,
+      omega (arith, (l a.before).loop-i.invariant.1, first_next (flag a.before)),
+      omega (arith, (l a.before).loop-i.invariant.2, second_next (flag a.before)),
+      simp length-set (l a.before).loop-i.invariant.3,
+      one_more (sum_at (q a.before) (r a.before) (wa a.before) (wb a.before)) (l a.before).loop-i.list (i a.before) _ a.loop-i-test.true (l a.before).loop-i.invariant.4 (stored c),
     )
 
-same_length : tie.Need-same-length invariant-loop decreases-loop
-same_length c = c.before.loop.invariant.3
+same_length : tie.Need-shape_of-list invariant-loop decreases-loop
+same_length c = c.loop-i.invariant.3
 
 returns : tie.Need-returns invariant-loop decreases-loop
 returns c =
-    let l = c.before in
-    let e : l.loop.i ≡ length (start l).args.list.now = omega (arith, c.loop-test.false, l.loop.invariant.0, l.loop.invariant.3) in
-    sym (take_all l.loop.i l.loop.list (omega (arith, c.loop-test.false))) ∙ l.loop.invariant.4 ∙ ap (tabulate _) e
+    let l = c in
+    let e : l.loop-i.i ≡ length (start l.before).args.list.now = omega (arith, c.loop-i-test.false, l.loop-i.invariant.0, l.loop-i.invariant.3) in
+    sym (take_all l.loop-i.i l.loop-i.list (omega (arith, c.loop-i-test.false))) ∙ l.loop-i.invariant.4 ∙ ap (tabulate _) e
 
-pub write-sums-spec : {M : Type 1} → statement M
-write-sums-spec =
+pub write_sums_spec : {M : Type 1} → statement M
+write_sums_spec =
     tie.close
     (tie.spec
     invariant-loop

@@ -57,7 +57,7 @@ module _ (s : tie.Start) where
   last = test over overflow ∷ []
 
   bits : edge_count held ≡ k
-  bits = flagged_bits s.pre.0
+  bits = flagged_bits s.requires.0
 
   end : length (encode held) ≡ end_of m k
   end = held_length m k q bits
@@ -66,26 +66,26 @@ module _ (s : tie.Start) where
   size = length_tabulate (sum_at q (k / 2) s.args.wa.now s.args.wb.now) n
 
 -- ---- Where 14 is told
-module _ (e : tie.After-either-short) where
+module _ (e : tie.After-either_short) where
   abbrev start : tie.Start
   start = e.before.before.before.before.before
 
   few : edge_count (held start) ≤ max_edges
-  few = omega (arith, bits start, e.before.if1.left)
+  few = omega (arith, bits start, e.if-k-gt-MAX_EDGES.false)
 
-  told : (ltb (length (xs start)) (length (encode (held start))) || ltb (length (ws start)) (length (sums start))) ≡ e.either-short.result
-  told = short_is (encode (held start)) (sums start) (ws start) (xs start) (end_of (m start) (k start)) (n start) e.either-short.result (end start) (size start) e.either-short.ensures
+  told : (ltb (length (xs start)) (length (encode (held start))) || ltb (length (ws start)) (length (sums start))) ≡ e.either_short.result
+  told = short_is (encode (held start)) (sums start) (ws start) (xs start) (end_of (m start) (k start)) (n start) e.either_short.result (end start) (size start) e.either_short.ensures
 
 -- ---- Where 17 is told
-module _ (v : tie.After-any-outside) where
-  abbrev sized : tie.After-either-short
-  sized = v.before.before.before
+module _ (v : tie.After-any_outside) where
+  abbrev sized : tie.After-either_short
+  sized = v.before.before
 
   abbrev s : tie.Start
   s = start sized
 
   fits : (ltb (length (xs s)) (length (encode (held s))) || ltb (length (ws s)) (length (sums s))) ≡ false
-  fits = told sized ∙ v.before.before.if2.left
+  fits = told sized ∙ v.if-either_short.false
 
   room : length (encode (held s)) ≤ length (xs s)
   room = no_lt (length (xs s)) (length (encode (held s))) (neither (ltb (length (xs s)) (length (encode (held s)))) (ltb (length (ws s)) (length (sums s))) fits).0
@@ -93,77 +93,77 @@ module _ (v : tie.After-any-outside) where
   list-room : n s ≤ length (ws s)
   list-room = omega (arith, size s, no_lt (length (ws s)) (length (sums s)) (neither (ltb (length (xs s)) (length (encode (held s)))) (ltb (length (ws s)) (length (sums s))) fits).1)
 
-returns : tie.Need-returns
+returns : tie.Need-returns-then-k-gt-MAX_EDGES
 returns c =
-    let s = c.before.before.before.before in
-    sym (writes_large (last s) (held s) (sums s) (xs s) (ws s) (omega (arith, bits s, c.if1.true)))
+    let s = c in
+    sym (writes_large (last s.before.before.before.before) (held s.before.before.before.before) (sums s.before.before.before.before) (xs s.before.before.before.before) (ws s.before.before.before.before) (omega (arith, bits s.before.before.before.before, c.if-k-gt-MAX_EDGES.true)))
 
-either-short-requires : tie.Need-either-short-requires
+either-short-requires : tie.Need-either_short-requires
 either-short-requires c κs = search rules
 
-returns-2 : tie.Need-returns-2
+returns-2 : tie.Need-returns-then-either_short
 returns-2 c =
-    let e = c.before in
-    let s = start e in
-    sym (writes_short (last s) (held s) (sums s) (xs s) (ws s) (few e) (told e ∙ c.if2.true))
+    let e = c in
+    let s = start e.before in
+    sym (writes_short (last s) (held s) (sums s) (xs s) (ws s) (few e.before) (told e.before ∙ c.if-either_short.true))
 
-any-outside-requires : tie.Need-any-outside-requires
-any-outside-requires c κs = (start c.before.before).pre.0.flags
+any-outside-requires : tie.Need-any_outside-requires
+any-outside-requires c κs = (start c.before).requires.0.flags
 
-same_length : tie.Need-same-length
+same_length : tie.Need-shape_of-q-then-any_outside
 same_length c = search rules
 
-returns-3 : tie.Need-returns-3
+returns-3 : tie.Need-returns-then-any_outside
 returns-3 c =
-    let v = c.before in
-    sym (writes_last (last (s v)) (held (s v)) (sums (s v)) (xs (s v)) (ws (s v)) (few (sized v)) (fits v) overflow (last_yes (over (s v)) overflow (sym v.any-outside.ensures ∙ c.if3.true)))
+    let v = c in
+    sym (writes_last (last (s v.before)) (held (s v.before)) (sums (s v.before)) (xs (s v.before)) (ws (s v.before)) (few (sized v.before)) (fits v.before) overflow (last_yes (over (s v.before)) overflow (sym v.any_outside.ensures ∙ c.if-any_outside.true)))
 
-slice-relend-prefix-write-sums : tie.Need-slice-relend-prefix-write-sums
-slice-relend-prefix-write-sums c = list-room c.before.before
+slice-relend-prefix-write-sums : tie.Need-slice_bounds-write_sums-end
+slice-relend-prefix-write-sums c = list-room c.before
 
-slice-aggregate-write-sums : tie.Need-slice-aggregate-write-sums
-slice-aggregate-write-sums c = let v = c.before.before.before in sym (length-take-le (n (s v)) (ws (s v)) (list-room v))
+slice-aggregate-write-sums : tie.Need-slice_bounds-write_sums-end-2
+slice-aggregate-write-sums c = let v = c in sym (length-take-le (n (s v.before.before)) (ws (s v.before.before)) (list-room v.before.before))
 
-write-sums-requires : tie.Need-write-sums-requires
+write-sums-requires : tie.Need-write_sums-requires
 write-sums-requires c κs =
-    let v = c.before.before.before in
-    let long = length-take-le (n (s v)) (ws (s v)) (list-room v) in
-    subst (λ j. FlagsFit (q (s v)) (k (s v) / 2) j × (any_below (over_at (q (s v)) (k (s v) / 2) (s v).args.wa.now (s v).args.wb.now) j ≡ false)) (sym long)
-    ((s v).requires.0.flags, sym v.any-outside.ensures ∙ c.before.before.if3.false)
+    let v = c in
+    let long = length-take-le (n (s v.before.before)) (ws (s v.before.before)) (list-room v.before.before) in
+    subst (λ j. FlagsFit (q (s v.before.before)) (k (s v.before.before) / 2) j × (any_below (over_at (q (s v.before.before)) (k (s v.before.before) / 2) (s v.before.before).args.wa.now (s v.before.before).args.wb.now) j ≡ false)) (sym long)
+    ((s v.before.before).requires.0.flags, sym v.any_outside.ensures ∙ c.if-any_outside.false)
 
 seal-requires : tie.Need-seal-requires
 seal-requires c κs =
-    let v = c.before.before.before.before.before.before in
-    (omega (arith, (s v).requires.0.flags.fits), omega (arith, (sized v).before.if1.false))
+    let v = c in
+    (omega (arith, (s v.before.before.before.before.before).requires.0.flags.fits), omega (arith, (sized v.before.before.before.before.before).if-k-gt-MAX_EDGES.false))
 
-put-encoding-requires : tie.Need-put-encoding-requires
+put-encoding-requires : tie.Need-put_encoding-requires
 put-encoding-requires c κs =
-    let z = c.before.before.before.before in
-    let v = z.before.before.before.before.before.before.before in
-    (sealed_joined (s v).requires.0 z.seal.ensures (s v).requires.1, (s v).requires.2, (sized v).before.if1.false, omega (arith, room v, end (s v)))
+    let z = c in
+    let v = z in
+    (sealed_joined (s v.before.before.before.before.before.before.before.before.before).requires.0 z.seal.ensures (s v.before.before.before.before.before.before.before.before.before).requires.1, (s v.before.before.before.before.before.before.before.before.before).requires.2, (sized v.before.before.before.before.before.before.before.before.before).if-k-gt-MAX_EDGES.false, omega (arith, room v.before.before.before.before.before.before.before.before.before, end (s v.before.before.before.before.before.before.before.before.before)))
 
-same-length-2 : tie.Need-same-length-2
+same-length-2 : tie.Need-shape_of-q
 same-length-2 c = search rules
 
-same-length-3 : tie.Need-same-length-3
+same-length-3 : tie.Need-shape_of-out
 same-length-3 c = search rules
 
-same-length-4 : tie.Need-same-length-4
+same-length-4 : tie.Need-shape_of-list
 same-length-4 c = search rules
 
-returns-4 : tie.Need-returns-4
+returns-4 : tie.Need-returns
 returns-4 c =
-    let put = c.before.before in
-    let z = c.before.before.before.before.before.before.before in
-    let w = z.before.before.before in
-    let v = w.before.before.before.before in
-    wrote_same (put.put-encoding.ensures.0 ∙ sym (end (s v)))
-    (put.put-encoding.ensures.1 ∙ ap (λ e. front (encode e) (xs (s v))) (sealed_held (s v).requires.0 z.seal.ensures))
-    (ap (λ l. l ++ drop (n (s v)) (ws (s v))) (w.write-sums.ensures ∙ ap (tabulate _) (length-take-le (n (s v)) (ws (s v)) (list-room v))) ∙ part_front (n (s v)) (sums (s v)) (ws (s v)) (size (s v)))
-    ∙ sym (writes_fits (last (s v)) (held (s v)) (sums (s v)) (xs (s v)) (ws (s v)) (few (sized v)) (fits v) (last_no (over (s v)) overflow (sym v.any-outside.ensures ∙ w.before.before.before.if3.false)))
+    let put = c in
+    let z = c in
+    let w = z in
+    let v = w in
+    wrote_same (put.put_encoding.ensures.0 ∙ sym (end (s v.before.before.before.before.before.before.before.before.before.before.before.before)))
+    (put.put_encoding.ensures.1 ∙ ap (λ e. front (encode e) (xs (s v.before.before.before.before.before.before.before.before.before.before.before.before))) (sealed_held (s v.before.before.before.before.before.before.before.before.before.before.before.before).requires.0 z.seal.ensures))
+    (ap (λ l. l ++ drop (n (s v.before.before.before.before.before.before.before.before.before.before.before.before)) (ws (s v.before.before.before.before.before.before.before.before.before.before.before.before))) (w.write_sums.ensures ∙ ap (tabulate _) (length-take-le (n (s v.before.before.before.before.before.before.before.before.before.before.before.before)) (ws (s v.before.before.before.before.before.before.before.before.before.before.before.before)) (list-room v.before.before.before.before.before.before.before.before.before.before.before.before))) ∙ part_front (n (s v.before.before.before.before.before.before.before.before.before.before.before.before)) (sums (s v.before.before.before.before.before.before.before.before.before.before.before.before)) (ws (s v.before.before.before.before.before.before.before.before.before.before.before.before)) (size (s v.before.before.before.before.before.before.before.before.before.before.before.before)))
+    ∙ sym (writes_fits (last (s v.before.before.before.before.before.before.before.before.before.before.before.before)) (held (s v.before.before.before.before.before.before.before.before.before.before.before.before)) (sums (s v.before.before.before.before.before.before.before.before.before.before.before.before)) (xs (s v.before.before.before.before.before.before.before.before.before.before.before.before)) (ws (s v.before.before.before.before.before.before.before.before.before.before.before.before)) (few (sized v.before.before.before.before.before.before.before.before.before.before.before.before)) (fits v.before.before.before.before.before.before.before.before.before.before.before.before) (last_no (over (s v.before.before.before.before.before.before.before.before.before.before.before.before)) overflow (sym v.any_outside.ensures ∙ w.if-any_outside.false)))
 
-pub write-union-spec : {M : Type 1} → statement M
-write-union-spec =
+pub write_union_spec : {M : Type 1} → statement M
+write_union_spec =
     tie.close
     (tie.spec
     returns
