@@ -12,18 +12,6 @@ mul-if1 c = search rules
 add-if1-2 : tie.Need-overflow_add-m
 add-if1-2 c = search rules
 
-slice-aggregate-divide : tie.Need-slice_bounds-divide-end-2
-slice-aggregate-divide c = search rules
-
-slice-aggregate-divide-2 : tie.Need-slice_bounds-divide-end-3
-slice-aggregate-divide-2 c = search rules
-
-slice-aggregate-divide-3 : tie.Need-slice_bounds-divide-end-4
-slice-aggregate-divide-3 c = search rules
-
-slice-aggregate-divide-4 : tie.Need-slice_bounds-divide-end-5
-slice-aggregate-divide-4 c = search rules
-
 divide-requires : tie.Need-divide-requires
 divide-requires c κs = let s = c in (s.requires.0, (s.requires.1.0, ((λ h. absurd (omega arith), λ h. absurd (omega arith)), s.requires.1.1)))
 
@@ -60,16 +48,16 @@ slice-aggregate-fill-edged c = search rules
 fill-edged-requires : tie.Need-fill_edged-requires
 fill-edged-requires c κs = search rules
 
-slice-aggregate-divide-5 : tie.Need-slice-aggregate-divide-5
+slice-aggregate-divide-5 : tie.Need-slice_bounds-divide-end-2
 slice-aggregate-divide-5 c = search rules
 
-slice-aggregate-divide-6 : tie.Need-slice-aggregate-divide-6
+slice-aggregate-divide-6 : tie.Need-slice_bounds-divide-end-3
 slice-aggregate-divide-6 c = search rules
 
-slice-aggregate-divide-7 : tie.Need-slice-aggregate-divide-7
+slice-aggregate-divide-7 : tie.Need-slice_bounds-divide-end-4
 slice-aggregate-divide-7 c = search rules
 
-slice-aggregate-divide-8 : tie.Need-slice-aggregate-divide-8
+slice-aggregate-divide-8 : tie.Need-slice_bounds-divide-end-5
 slice-aggregate-divide-8 c = search rules
 
 divide-requires-2 : tie.Need-divide-requires-2
@@ -101,10 +89,6 @@ divided_spec =
     add-if1
     mul-if1
     add-if1-2
-    slice-aggregate-divide
-    slice-aggregate-divide-2
-    slice-aggregate-divide-3
-    slice-aggregate-divide-4
     divide-requires
     same_length
     same-length-2

@@ -80,7 +80,7 @@ returns c =
     let d = w in
     let s = d in
     let o = s.requires.0 in
-    w.write_three.ensures ∙ three_split _ _ _ _ o.0 o.1 o.2 d.divided-k.ensures s.args.both.now s.args.only-first.now s.args.only-second.now
+    w.write_three.ensures ∙ three_split _ _ _ _ o.0 o.1 o.2 d.divided-k.ensures s.args.both.now s.args.only_first.now s.args.only_second.now
 
 pub split_opened_spec : {M : Type 1} → statement M
 split_opened_spec =

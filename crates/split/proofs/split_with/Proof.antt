@@ -54,7 +54,7 @@ unfolding split_outcome
 returns c =
     let o = c in
     let s = o in
-    sym (split_refused s.args.a.now s.args.b.now s.args.both.now s.args.only-first.now s.args.only-second.now c.in-Refused.k (subst (Both s.args.a.now s.args.b.now) c.in-Refused.is o.open_both-pair.ensures))
+    sym (split_refused s.args.a.now s.args.b.now s.args.both.now s.args.only_first.now s.args.only_second.now c.in-Refused.k (subst (Both s.args.a.now s.args.b.now) c.in-Refused.is o.open_both-pair.ensures))
 
 same_length : tie.Need-shape_of-q
 same_length c = search rules
@@ -82,7 +82,7 @@ returns-2 c =
     let w = c in
     let k = w in
     let s = start k.before.before.before.before.before.before.before.before.before.before.before.before.before.before.before.before.before.before.before.before.before.before in
-    w.split_opened.ensures ∙ sym (split_opens (a k.before.before.before.before.before.before.before.before.before.before.before.before.before.before.before.before.before.before.before.before.before.before) (b k.before.before.before.before.before.before.before.before.before.before.before.before.before.before.before.before.before.before.before.before.before.before) s.args.both.now s.args.only-first.now s.args.only-second.now (both k.before.before.before.before.before.before.before.before.before.before.before.before.before.before.before.before.before.before.before.before.before.before).0.reads (both k.before.before.before.before.before.before.before.before.before.before.before.before.before.before.before.before.before.before.before.before.before.before).1.reads)
+    w.split_opened.ensures ∙ sym (split_opens (a k.before.before.before.before.before.before.before.before.before.before.before.before.before.before.before.before.before.before.before.before.before.before) (b k.before.before.before.before.before.before.before.before.before.before.before.before.before.before.before.before.before.before.before.before.before.before) s.args.both.now s.args.only_first.now s.args.only_second.now (both k.before.before.before.before.before.before.before.before.before.before.before.before.before.before.before.before.before.before.before.before.before.before).0.reads (both k.before.before.before.before.before.before.before.before.before.before.before.before.before.before.before.before.before.before.before.before.before.before).1.reads)
 
 pub split_with_spec : {M : Type 1} → statement M
 split_with_spec =

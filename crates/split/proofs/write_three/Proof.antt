@@ -27,10 +27,10 @@ module _ (k : tie.Else-any_short) where
   x = short start.args.both.now start.args.k.both
 
   abbrev y : Bool
-  y = short start.args.only-first.now start.args.k.only_first
+  y = short start.args.only_first.now start.args.k.only_first
 
   abbrev z : Bool
-  z = short start.args.only-second.now start.args.k.only_second
+  z = short start.args.only_second.now start.args.k.only_second
 
   fits : (x || (y || z)) ≡ false
   fits = sym k.any_short.ensures ∙ k.if-any_short.false
@@ -41,11 +41,11 @@ module _ (k : tie.Else-any_short) where
   both-room : end_of start.args.m start.args.k.both ≤ length start.args.both.now
   both-room = room start.args.both.now _ (neither x (y || z) fits).0
 
-  first-room : end_of start.args.m start.args.k.only_first ≤ length start.args.only-first.now
-  first-room = room start.args.only-first.now _ (neither y z (neither x (y || z) fits).1).0
+  first-room : end_of start.args.m start.args.k.only_first ≤ length start.args.only_first.now
+  first-room = room start.args.only_first.now _ (neither y z (neither x (y || z) fits).1).0
 
-  second-room : end_of start.args.m start.args.k.only_second ≤ length start.args.only-second.now
-  second-room = room start.args.only-second.now _ (neither y z (neither x (y || z) fits).1).1
+  second-room : end_of start.args.m start.args.k.only_second ≤ length start.args.only_second.now
+  second-room = room start.args.only_second.now _ (neither y z (neither x (y || z) fits).1).1
 
 any-short-requires : tie.Need-any_short-requires
 any-short-requires c κs = search rules
@@ -56,7 +56,7 @@ returns c =
     let s = c in
     let j = s.requires.0 in
     let f = s.requires.1 in
-    sym (ap (λ x. x.outcome) (three_refused s.args.m _ _ _ _ _ _ j.0 j.1 j.2 f.0 f.1 f.2 s.args.both.now s.args.only-first.now s.args.only-second.now (sym c.any_short.ensures ∙ c.if-any_short.true)))
+    sym (ap (λ x. x.outcome) (three_refused s.args.m _ _ _ _ _ _ j.0 j.1 j.2 f.0 f.1 f.2 s.args.both.now s.args.only_first.now s.args.only_second.now (sym c.any_short.ensures ∙ c.if-any_short.true)))
 
 put-encoding-requires : tie.Need-put_encoding-a-requires
 put-encoding-requires c κs = let k = c in let s = start k.before in (s.requires.0.0, s.requires.1.3, s.requires.1.0, both-room k.before)
@@ -87,7 +87,7 @@ returns-2 c =
     let j = s.requires.0 in
     let f = s.requires.1 in
     ap₂ (λ n l. writing_all (wrote n) l) (ap₂ ◌∷◌ x.0 (ap₂ ◌∷◌ y.0 (ap (λ n. n ∷ []) z.0))) (ap₂ ◌∷◌ x.1 (ap₂ ◌∷◌ y.1 (ap (λ l. l ∷ []) z.1)))
-    ∙ sym (three_written s.args.m _ _ _ _ _ _ j.0 j.1 j.2 f.0 f.1 f.2 s.args.both.now s.args.only-first.now s.args.only-second.now (fits k.before.before.before.before.before.before.before.before.before.before.before.before))
+    ∙ sym (three_written s.args.m _ _ _ _ _ _ j.0 j.1 j.2 f.0 f.1 f.2 s.args.both.now s.args.only_first.now s.args.only_second.now (fits k.before.before.before.before.before.before.before.before.before.before.before.before))
 
 pub write_three_spec : {M : Type 1} → statement M
 write_three_spec =
