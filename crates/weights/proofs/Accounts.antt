@@ -105,12 +105,13 @@ difference_list a f =
     go k false h = refl
 
 pub difference_sound : (a : Account) (f : Entry) → Sound a → Valid (difference_entry a.entry f) → Sound (difference_account a f)
+unfolding difference_account with_set without
 difference_sound a f s v =
     record {
-      valid = unfold difference_account in v;
-      empty = λ k h. unfold difference_account in away k (a.entry.set k) (f.set k) refl (unfold difference_account with_set without in h);
-      within = λ k. unfold difference_account in fits k (f.set k);
-      balance = ap total (sym (difference_list a f)) ∙ unfold difference_account in without_part _ _ a.posted a.dropped (left ∙ s.balance);
+      valid = v;
+      empty = λ k h. away k (a.entry.set k) (f.set k) refl (h);
+      within = λ k. fits k (f.set k);
+      balance = ap total (sym (difference_list a f)) ∙ without_part _ _ a.posted a.dropped (left ∙ s.balance);
     }
   where
     away : (k : Key) (p q : Bool) → a.entry.set k ≡ p → (p && not q) ≡ false → cond q no_weight (a.held k) ≡ no_weight

@@ -138,9 +138,9 @@ adds_leaves t c ts last a out ws h more f =
 -- a post
 post_leaves : (t : List Account) (i : ℕ) (a : Account) (x : Bytes) (amount : ℤ) → AllSound t → Sound a → get_or (map stored_of t) i none_stored ≡ stored_of a
     → Leaves t (do_post i x amount) (some (step_to t (set t i (posted_account a (key_in a.entry.width x) amount)) (post_on a x amount)))
-unfolding post_on key_test
+unfolding post_on key_test store_with
 post_leaves t i a x amount h s there =
-    step_leaves t _ _ _ [] (list_of a) _ h (λ k. unfold store_with in stays) (λ z. go (a.entry.set key) refl (none_test _ _ _ (none_test _ _ _ z).1).0)
+    step_leaves t _ _ _ [] (list_of a) _ h (λ k. stays) (λ z. go (a.entry.set key) refl (none_test _ _ _ (none_test _ _ _ z).1).0)
   where
     key : Key
     key = key_in a.entry.width x

@@ -56,7 +56,7 @@ returns-2 c =
     let d = c in
     let s = start d.before.before.before.before.before in
     call_opened s.args.l.now (outputs [] s.args.list.now) _ (entry_in s.args.l.now) _ (opens d.before.before.before.before).reads
-    (c.post_in.ensures ∙ ap (Weights.post (entry_in s.args.l.now) s.args.list.now s.args.key.now) (to_z-of_z s.fits.amount))
+    (c.post_in.ensures ∙ ap (Weights.post (entry_in s.args.l.now) s.args.list.now s.args.key.now) (to_z-of_z s.ranges.amount))
 
 pub post_spec : {M : Type 1} → statement M
 post_spec =

@@ -44,10 +44,10 @@ module _ (v : tie.After-is_outside) where
   summed : v.sum-s.result ≡ sum
   summed =
       v.sum-s.ensures
-      ∙ ap₂ ◌+ℤ◌ (to_z-of_z {w = w32} {z = get_or ws k no_weight} (record { sfits = v.old-1.given })) (to_z-of_z s.fits.amount)
+      ∙ ap₂ ◌+ℤ◌ (to_z-of_z {w = w32} {z = get_or ws k no_weight} (record { sfits = v.old-1.given })) (to_z-of_z s.ranges.amount)
 
   sum-read : to_z w64 (of_z w64 v.sum-s.result) ≡ sum
-  sum-read = to_z-of_z {w = w64} {z = v.sum-s.result} (record { sfits = v.sum-s.ok }) ∙ summed
+  sum-read = to_z-of_z {w = w64} {z = v.sum-s.result} (record { sfits = v.sum-s.type_inv }) ∙ summed
 
   tested : v.is_outside.result ≡ outside sum
   tested = v.is_outside.ensures ∙ ap outside sum-read

@@ -38,10 +38,10 @@ module _ (s : tie.Start) where
   same = s.requires.0.2
 
   first-room : e.edges ≤ length a
-  first-room = omega (arith, (opens_room a e p).edges-1)
+  first-room = omega (arith, (opens_room a e p).edges)
 
   second-room : f.edges ≤ length b
-  second-room = omega (arith, (opens_room b f q).edges-1)
+  second-room = omega (arith, (opens_room b f q).edges)
 
 returns : tie.Need-returns-then-wa-e
 returns c =

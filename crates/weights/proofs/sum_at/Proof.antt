@@ -30,14 +30,14 @@ module _ (c : tie.After-sum) where
   y = c.weight_if-y.result
 
   x_fits : SFits w32 x
-  x_fits = record { sfits = c.weight_if-x.type-inv }
+  x_fits = record { sfits = c.weight_if-x.type_inv }
 
   y-fits : SFits w32 y
-  y-fits = record { sfits = c.weight_if-y.type-inv }
+  y-fits = record { sfits = c.weight_if-y.type_inv }
 
   summed : to_z w64 (of_z w64 c.sum.result) ≡ x +ℤ y
   summed =
-      to_z-of_z {w = w64} {z = c.sum.result} (record { sfits = c.sum.type-inv }) ∙ c.sum.ensures ∙ ap₂ ◌+ℤ◌ (to_z-of_z x_fits) (to_z-of_z y-fits)
+      to_z-of_z {w = w64} {z = c.sum.result} (record { sfits = c.sum.type_inv }) ∙ c.sum.ensures ∙ ap₂ ◌+ℤ◌ (to_z-of_z x_fits) (to_z-of_z y-fits)
 
 -- one of two that are not both taken is nothing
 single : (a b : Bool) (wa wb : Weights) (i j : _) (x y : ℤ) → x ≡ taken a wa i → y ≡ taken b wb j → SFits w32 x → SFits w32 y → (a && b) ≡ false → outside (x +ℤ y) ≡ false

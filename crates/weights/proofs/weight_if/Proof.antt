@@ -18,7 +18,7 @@ unfolding taken
 returns c =
     let e = c in
     let o : odd e.args.f ≡ true = unfold odd in rw c.if-f-eq1.true in
-    to_z-of_z {w = w32} {z = e.weight_at-x.result} (record { sfits = e.weight_at-x.type-inv }) ∙ e.weight_at-x.ensures ∙ rw o
+    to_z-of_z {w = w32} {z = e.weight_at-x.result} (record { sfits = e.weight_at-x.type_inv }) ∙ e.weight_at-x.ensures ∙ rw o
 
 returns-2 : tie.Need-returns-else-f-eq1
 unfolding taken

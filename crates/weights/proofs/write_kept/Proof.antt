@@ -6,7 +6,6 @@ use native.Mathlib.Numerals.{add-one}
 use lib.ListN.{length, take, get_or, set, length-set}
 use lib.Seq.{take_all}
 use lib.IntN.{ℤ}
-use mathlib.Core.Logic.{inl, inr}
 use mir.Syntax.{w32}
 use mir.Facts.{to_z-of_z}
 use lib.Dec.{eqb}
@@ -20,6 +19,7 @@ use Rattle.weights.specs.Weights.{Weights, no_weight}
 use Rattle.weights.specs.Lists.{kept_to}
 use Rattle.weights.proofs.Flags.{first_within, first_next, kept_within, kept_next, kept_more}
 use Rattle.weights.proofs.write_kept.Statement.{statement}
+use Rattle.weights.proofs.write_kept.Lts.{then-k-list, else-k-list}
 use Rattle.weights.proofs.write_kept.Tie as tie
 
 abbrev invariant-loop : tie.invariant-loop-i
@@ -95,7 +95,7 @@ module _ (c : tie.Joined-k-list invariant-loop decreases-loop) where
   -- what is put
   entry : to_z w32 (of_z w32 c.weight_at-x.result) ≡ get_or wa (first_count (flags_from q r i)) no_weight
   entry =
-      to_z-of_z {w = w32} {z = c.weight_at-x.result} (record { sfits = c.weight_at-x.type-inv }) ∙ c.weight_at-x.ensures
+      to_z-of_z {w = w32} {z = c.weight_at-x.result} (record { sfits = c.weight_at-x.type_inv }) ∙ c.weight_at-x.ensures
       ∙ ap (λ j. get_or wa j no_weight) l.loop-i.invariant.1
 
   abbrev k : ℕ
@@ -103,18 +103,18 @@ module _ (c : tie.Joined-k-list invariant-loop decreases-loop) where
 
   put : k < length l.loop-i.list → c.if-k-list.list ≡ set l.loop-i.list k (get_or wa (first_count (flags_from q r i)) no_weight)
   put h = elim c.if-k-list.branch [
-    | inl w ↦ w.1 ∙ ap₂ (λ (j : ℕ) (z : ℤ). set l.loop-i.list j z) l.loop-i.invariant.2 entry
-    | inr w ↦ absurd (omega (arith, h, w.0.left, l.loop-i.invariant.2))
+    | then-k-list w ↦ w.list-is ∙ ap₂ (λ (j : ℕ) (z : ℤ). set l.loop-i.list j z) l.loop-i.invariant.2 entry
+    | else-k-list w ↦ absurd (omega (arith, h, w.if-k-list.false, l.loop-i.invariant.2))
   ]
 
   stay : length l.loop-i.list ≤ k → c.if-k-list.list ≡ l.loop-i.list
   stay h = elim c.if-k-list.branch [
-    | inl w ↦ absurd (omega (arith, h, w.0.taken, l.loop-i.invariant.2))
-    | inr w ↦ w.1
+    | then-k-list w ↦ absurd (omega (arith, h, w.if-k-list.true, l.loop-i.invariant.2))
+    | else-k-list w ↦ w.list-is
   ]
 
   long : length c.if-k-list.list ≡ length l.loop-i.list
-  long = elim c.if-k-list.branch [ inl w ↦ ap length w.1 ∙ simp length-set refl | inr w ↦ ap length w.1 ]
+  long = elim c.if-k-list.branch [ then-k-list w ↦ ap length w.list-is ∙ simp length-set refl | else-k-list w ↦ ap length w.list-is ]
 
 add-ia : tie.Need-overflow_add-ia invariant-loop decreases-loop
 add-ia c = record { fits = omega (arith, few c, (l c).loop-i.invariant.1, first_within (q c) (r c) (i c)) }

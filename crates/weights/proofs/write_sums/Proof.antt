@@ -92,7 +92,7 @@ module _ (c : tie.After-sum_at-s invariant-loop decreases-loop) where
   sum = c.sum_at-s.result
 
   sum-read : to_z w64 (of_z w64 sum) ≡ sum
-  sum-read = to_z-of_z {w = w64} {z = sum} (record { sfits = c.sum_at-s.type-inv })
+  sum-read = to_z-of_z {w = w64} {z = sum} (record { sfits = c.sum_at-s.type_inv })
 
   summed : sum ≡ sum_at (q a) (r a) (wa a) (wb a) (i a)
   summed =
