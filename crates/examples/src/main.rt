@@ -4,10 +4,9 @@
 ghost use Rattle.std.specs.Prelude.{◌<◌, ◌≤◌, ◌≡◌, length};
 
 use bits::{EdgeOffset, MemberIndex};
-use bytes::scan;
 use capi::{Answer, Cursor};
 use encoding::Encoding;
-use libc::{STDIN_FILENO, STDOUT_FILENO};
+use std::io;
 
 // An answer that is there.
 const FOUND: u32 = 1;
@@ -16,6 +15,12 @@ const FOUND: u32 = 1;
 const ROOM: usize = 2048;
 
 const FILL: u8 = 0x77;
+
+// The most bytes that a word of a line is read as.
+const WORD_BYTES: usize = 4096;
+
+// The most bytes of a script that are run.
+const SCRIPT_BYTES: usize = 65_536;
 
 // As many bytes of a buffer are shown.
 const SHOWN: usize = 64;
@@ -36,11 +41,22 @@ const SPACE: u8 = b' ';
 const COMMENT: u8 = b'#';
 
 // ---- The pieces of a text between marks: lines, and words of a line
+// Where the piece that begins here ends: at the next mark, or where the text does.
+fn end_of(text: &[u8], from: usize, mark: u8) -> usize
+    requires { from ≤ length text.now }
+    ensures { (from ≤ result) × (result ≤ length text.now) }
+{
+    match text[from..].iter().position(|b| *b == mark) {
+        Some(k) => from + k,
+        None => text.len(),
+    }
+}
+
 // The piece that begins here.
 fn piece(text: &[u8], from: usize, mark: u8) -> &[u8]
     requires { from ≤ length text.now }
 {
-    let end = scan::find(text, from, text.len(), mark);
+    let end = end_of(text, from, mark);
     &text[from..end]
 }
 
@@ -49,7 +65,7 @@ fn behind(text: &[u8], from: usize, mark: u8) -> usize
     requires { from ≤ length text.now }
     ensures { (result ≤ length text.now) × (from < length text.now → from < result) }
 {
-    let end = scan::find(text, from, text.len(), mark);
+    let end = end_of(text, from, mark);
     if end < text.len() { end + 1 } else { end }
 }
 
@@ -149,7 +165,7 @@ fn is_bytes(text: &[u8]) -> bool {
     if text.len() % 2 == 0 {
         return is_digits(text, 16);
     }
-    check::same(text, b"-")
+    text == b"-".as_slice()
 }
 
 // Whether a word has a form: N is a number, H bytes, any other form the word itself.
@@ -157,7 +173,7 @@ fn fits(text: &[u8], form: &[u8]) -> bool {
     match letter_of(form) {
         b'N' => is_digits(text, 10),
         b'H' => is_bytes(text),
-        _ => check::same(text, form),
+        _ => text == form,
     }
 }
 
@@ -194,51 +210,49 @@ fn is_call(line: &[u8]) -> bool {
 }
 
 // ---- Answers, each part behind a space
-fn put(text: &[u8]) {
-    io::write_all(STDOUT_FILENO, text);
+fn put(rt: &impl Print, text: &[u8]) -> io::Result<()> {
+    rt.write_all(text)
 }
 
-fn put_number(n: usize) {
-    put(b" ");
-    io::print_decimal(STDOUT_FILENO, n as u64);
+fn put_number(rt: &impl Print, n: usize) -> io::Result<()> {
+    print!(rt; " {n}")
 }
 
-fn put_bytes(s: &[u8]) {
+fn put_bytes(rt: &impl Print, s: &[u8]) -> io::Result<()> {
     let mut text = [SPACE; 2 * SHOWN + 1];
     let k = lesser(s.len(), SHOWN);
     let n = printing::put_key(&mut text, 1, &s[..k]);
     if n > 1 {
-        put(&text[..n]);
+        put(rt, &text[..n])?;
     }
+    Ok(())
 }
 
 // A number, absent, or a refusal.
-fn put_answer(a: Answer) {
+fn put_answer(rt: &impl Print, a: Answer) -> io::Result<()> {
     if a.refusal > 0 {
-        put(b" refused");
-        put_number(a.refusal as usize);
-        return;
+        put(rt, b" refused")?;
+        return put_number(rt, a.refusal as usize);
     }
     if a.found == 0 {
-        put(b" absent");
-        return;
+        return put(rt, b" absent");
     }
-    put_number(a.value);
+    put_number(rt, a.value)
 }
 
 // ---- Calls
 // The width and the count are put, the edges are the answer.
-fn open(l: &[u8]) -> Answer {
+fn open(rt: &impl Print, l: &[u8]) -> io::Result<Answer> {
     let o = capi::loes_open(l);
     if o.refusal == 0 {
-        put_number(o.width as usize);
-        put_number(o.count);
+        put_number(rt, o.width as usize)?;
+        put_number(rt, o.count)?;
     }
-    Answer {
+    Ok(Answer {
         refusal: o.refusal,
         found: FOUND,
         value: o.bits,
-    }
+    })
 }
 
 // A cursor from the bytes of its first numbers; the others are 0.
@@ -270,27 +284,34 @@ fn bytes_in(cursor: Cursor) -> [u8; CURSOR_SHOWN]
 }
 
 // The cursor after the step is put, the bytes written are the answer; a step to after has none.
-fn advance(l: &[u8], from: &[u8], out: &mut [u8]) -> Answer {
+fn advance(rt: &impl Print, l: &[u8], from: &[u8], out: &mut [u8]) -> io::Result<Answer> {
     let s = capi::advanced(l, cursor_of(from), out);
     let to = s.cursor;
     let shown = bytes_in(to);
-    put_bytes(&shown);
-    s.answer
+    put_bytes(rt, &shown)?;
+    Ok(s.answer)
 }
 
 // The call that begins with a letter.
-fn answer(letter: u8, l: &[u8], other: &[u8], x: usize, out: &mut [u8]) -> Answer {
+fn answer(
+    rt: &impl Print,
+    letter: u8,
+    l: &[u8],
+    other: &[u8],
+    x: usize,
+    out: &mut [u8],
+) -> io::Result<Answer> {
     match letter {
-        b'o' => open(l),
-        b'r' => capi::loes_rank(l, EdgeOffset(x)),
-        b'c' => capi::loes_contains(l, other),
-        b'i' => capi::loes_index_of(l, other),
-        b'l' => capi::loes_lower_bound(l, other),
-        b'k' => capi::loes_key_at(l, MemberIndex(x), out),
-        b'p' => capi::loes_pack(x, l, out),
-        b'u' => capi::loes_union(l, other, out),
-        b'd' => capi::loes_difference(l, other, out),
-        _ => advance(l, other, out),
+        b'o' => open(rt, l),
+        b'r' => Ok(capi::loes_rank(l, EdgeOffset(x))),
+        b'c' => Ok(capi::loes_contains(l, other)),
+        b'i' => Ok(capi::loes_index_of(l, other)),
+        b'l' => Ok(capi::loes_lower_bound(l, other)),
+        b'k' => Ok(capi::loes_key_at(l, MemberIndex(x), out)),
+        b'p' => Ok(capi::loes_pack(x, l, out)),
+        b'u' => Ok(capi::loes_union(l, other, out)),
+        b'd' => Ok(capi::loes_difference(l, other, out)),
+        _ => advance(rt, l, other, out),
     }
 }
 
@@ -309,47 +330,48 @@ fn front(room: &mut [u8], n: usize) -> &mut [u8] {
 }
 
 // Answers a line, once its bytes are read.
-fn run_call(line: &[u8], l: &[u8], other: &[u8]) {
+fn run_call(rt: &impl Print, line: &[u8], l: &[u8], other: &[u8]) -> io::Result<()> {
     let mut room = filled();
     let out = front(&mut room, number(word(line, 3)));
-    put(b"=");
-    let a = answer(letter_of(line), l, other, number(word(line, 2)), out);
-    put_answer(a);
-    put_bytes(out);
-    put(b"\n");
+    put(rt, b"=")?;
+    let a = answer(rt, letter_of(line), l, other, number(word(line, 2)), out)?;
+    put_answer(rt, a)?;
+    put_bytes(rt, out)?;
+    put(rt, b"\n")
 }
 
-fn read_call(line: &[u8]) {
-    let mut first = io::buffer();
-    let mut second = io::buffer();
+fn read_call(rt: &impl Print, line: &[u8]) -> io::Result<()> {
+    let mut first = [0u8; WORD_BYTES];
+    let mut second = [0u8; WORD_BYTES];
     let l = bytes_of(word(line, 1), &mut first);
     let other = bytes_of(word(line, 2), &mut second);
-    run_call(line, l, other);
+    run_call(rt, line, l, other)
 }
 
-fn run_line(line: &[u8]) {
-    put(line);
-    put(b"\n");
+fn run_line(rt: &impl Print, line: &[u8]) -> io::Result<()> {
+    put(rt, line)?;
+    put(rt, b"\n")?;
     if letter_of(line) == COMMENT {
-        return;
+        return Ok(());
     }
     if is_call(line) {
-        read_call(line);
+        read_call(rt, line)
     } else {
-        put(b"bad line\n");
+        put(rt, b"bad line\n")
     }
 }
 
-fn run(script: &[u8]) {
+fn run(rt: &impl Print, script: &[u8]) -> io::Result<()> {
     let mut from: usize = 0;
     while from < script.len() {
-        run_line(piece(script, from, LINE_FEED));
+        run_line(rt, piece(script, from, LINE_FEED))?;
         from = behind(script, from, LINE_FEED);
     }
+    Ok(())
 }
 
-fn main() {
-    let mut script = io::large_buffer();
-    let n = io::read_full(STDIN_FILENO, &mut script);
-    run(&script[..n]);
+fn main(rt: HostRuntime) -> io::Result<()> {
+    let mut script = [0u8; SCRIPT_BYTES];
+    let n = printing::read_full(&mut rt.reader(), &mut script)?;
+    run(&rt, &script[..n])
 }

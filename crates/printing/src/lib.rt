@@ -1,7 +1,7 @@
 // Prints an encoding: a line of its numbers, then a line for each member, its index and its key's bytes.
 #![tactic(auto)]
 
-ghost use Rattle.std.specs.Prelude.{◌+◌, ◌-◌, ◌<◌, ◌≤◌, ◌≡◌, [], ◌∷◌, length};
+ghost use Rattle.std.specs.Prelude.{◌+◌, ◌-◌, ◌<◌, ◌≤◌, ◌≡◌, [], ◌∷◌, length, IfOk};
 ghost use Rattle.loes.specs.Entry.{count};
 ghost use Rattle.loes.specs.Read.{rejected, read, entry_in};
 ghost use Rattle.loes.specs.Cursor as spec;
@@ -14,10 +14,18 @@ ghost use Rattle.printing.specs.Pages.{Stands, PutsNext, Fills, Full};
 use bits::MemberIndex;
 use cursor::{Cursor, Stepped};
 use encoding::{Checked, Encoding};
-use libc::{STDIN_FILENO, STDOUT_FILENO};
+use itoa::Buffer;
+use std::io;
+use std::io::Read;
 
 // Room for any line: an index of 20 digits, a space, a key of 32 bytes and a line feed are 86 bytes, and the first line is no longer.
 const LINE: usize = 96;
+
+// The bytes of text that are written at once.
+const PAGE: usize = 4096;
+
+// The most bytes that are taken of standard input.
+const MOST_INPUT: usize = 65_536;
 
 const LINE_FEED: u8 = b'\n';
 
@@ -48,9 +56,8 @@ fn put_number(text: &mut [u8], at: usize, n: usize) -> usize
     requires { at + length (decimal n) ≤ length text.old }
     ensures { Puts at (decimal n) text.old result text.new }
 {
-    let mut digits = [0u8; 20];
-    let k = io::decimal(n as u64, &mut digits);
-    put_text(text, at, &digits[..k])
+    let mut digits = Buffer::new();
+    put_text(text, at, digits.format(n).as_bytes())
 }
 
 // A digit in upper-case hexadecimal.
@@ -182,51 +189,57 @@ fn fill(l: &[u8], t: &[u8], e: Encoding, from: Page, text: &mut [u8]) -> Page
 }
 
 // ---- Writing: each is lent its text of the input and nothing else; no contract speaks of what leaves the process
-fn write_numbers(l: &[u8], text: &[u8])
+fn write_numbers(rt: &impl Print, l: &[u8], text: &[u8]) -> io::Result<()>
     requires { text.now ≡ first_line (entry_in l.now) }
 {
-    io::write_all(STDOUT_FILENO, text);
+    rt.write_all(text)
 }
 
 // The lines of the members from one index up to another.
-fn write_members(l: &[u8], from: MemberIndex, to: MemberIndex, text: &[u8])
+fn write_members(
+    rt: &impl Print,
+    l: &[u8],
+    from: MemberIndex,
+    to: MemberIndex,
+    text: &[u8],
+) -> io::Result<()>
     requires { (from.0 < to.0) × (to.0 ≤ count (entry_in l.now)) × (text.now ≡ lines_from (entry_in l.now) from.0 (to.0 - from.0)) }
 {
-    io::write_all(STDOUT_FILENO, text);
+    rt.write_all(text)
 }
 
-fn write_refused(l: &[u8], k: u8, text: &[u8])
+fn write_refused(rt: &impl Print, l: &[u8], k: u8, text: &[u8]) -> io::Result<()>
     requires { (read l.now ≡ rejected k) × (text.now ≡ refused_line k) }
 {
-    io::write_all(STDOUT_FILENO, text);
+    rt.write_all(text)
 }
 
-fn print_numbers(l: &[u8], e: Encoding)
+fn print_numbers(rt: &impl Print, l: &[u8], e: Encoding) -> io::Result<()>
     requires { Opens l.now e }
 {
     let mut text = [0u8; LINE];
     let n = put_numbers(&mut text, 0, e);
-    write_numbers(l, &text[..n]);
+    write_numbers(rt, l, &text[..n])
 }
 
 // Prints a page of lines, and returns one that goes on from it.
-fn print_page(l: &[u8], t: &[u8], e: Encoding, from: Page) -> Page
+fn print_page(rt: &impl Print, l: &[u8], t: &[u8], e: Encoding, from: Page) -> io::Result<Page>
     requires { Opens l.now e × Tallies t.now × Stands (entry_in l.now) from × (from.length ≡ 0) × (from.index.0 < e.count) }
-    ensures { Stands (entry_in l.now) result × (result.length ≡ 0) × (from.index.0 < result.index.0) }
+    ensures { IfOk result (λ next. Stands (entry_in l.now) next × (next.length ≡ 0) × (from.index.0 < next.index.0)) }
 {
-    let mut text = io::buffer();
+    let mut text = [0u8; PAGE];
     let p = fill(l, t, e, from, &mut text);
     let n = p.length;
-    write_members(l, from.index, p.index, &text[..n]);
+    write_members(rt, l, from.index, p.index, &text[..n])?;
     let mut next = p;
     next.length = 0;
-    next
+    Ok(next)
 }
 
 // Prints the lines of the members, page by page, and returns the index that it came to.
-fn print_members(l: &[u8], t: &[u8], e: Encoding) -> MemberIndex
+fn print_members(rt: &impl Print, l: &[u8], t: &[u8], e: Encoding) -> io::Result<MemberIndex>
     requires { Opens l.now e × Tallies t.now }
-    ensures { result.0 ≡ count (entry_in l.now) }
+    ensures { IfOk result (λ to. to.0 ≡ count (entry_in l.now)) }
 {
     let mut p = Page {
         cursor: Cursor::before(),
@@ -234,39 +247,56 @@ fn print_members(l: &[u8], t: &[u8], e: Encoding) -> MemberIndex
         length: 0,
     };
     while p.index.0 < e.count {
-        p = print_page(l, t, e, p);
+        p = print_page(rt, l, t, e, p)?;
     }
-    p.index
+    Ok(p.index)
 }
 
-fn print_refused(l: &[u8], k: u8)
+fn print_refused(rt: &impl Print, l: &[u8], k: u8) -> io::Result<()>
     requires { read l.now ≡ rejected k }
 {
     let mut text = [0u8; LINE];
     let n = put_refused(&mut text, 0, k);
-    write_refused(l, k, &text[..n]);
+    write_refused(rt, l, k, &text[..n])
 }
 
 // Prints the encoding that bytes are, or their refusal.
-fn print(l: &[u8]) {
+fn print(rt: &impl Print, l: &[u8]) -> io::Result<()> {
     let t = bits::tallies();
     match encoding::check(l, &t) {
-        Checked::Refused(k) => print_refused(l, k),
+        Checked::Refused(k) => print_refused(rt, l, k),
         Checked::Opened(e) => {
-            print_numbers(l, e);
-            print_members(l, &t, e);
+            print_numbers(rt, l, e)?;
+            print_members(rt, l, &t, e)?;
+            Ok(())
         }
     }
 }
 
-// Prints what standard input holds, if it is no longer than 65,536 bytes.
-pub fn print_input() {
-    let mut input = io::large_buffer();
-    let n = io::read_full(STDIN_FILENO, &mut input);
-    let mut more = [0u8; 1];
-    if io::read_full(STDIN_FILENO, &mut more) > 0 {
-        io::write_all(STDOUT_FILENO, b"input too long\n");
-        return;
+// ---- Reading
+// Reads until a buffer is full or the input ends, and returns how many bytes it put at the front.
+pub fn read_full(reader: &mut impl Read, buf: &mut [u8]) -> io::Result<usize>
+    ensures { IfOk result (λ n. n ≤ length buf.new) }
+{
+    let mut done: usize = 0;
+    while done < buf.len() {
+        let n = reader.read(&mut buf[done..])?;
+        if n == 0 {
+            break;
+        }
+        done += n;
     }
-    print(&input[..n]);
+    Ok(done)
+}
+
+// Prints what standard input holds, if it is no longer than 65,536 bytes.
+pub fn print_input(rt: &(impl Input + Print)) -> io::Result<()> {
+    let mut input = [0u8; MOST_INPUT];
+    let mut reader = rt.reader();
+    let n = read_full(&mut reader, &mut input)?;
+    let mut more = [0u8; 1];
+    if read_full(&mut reader, &mut more)? > 0 {
+        return rt.write_all(b"input too long\n");
+    }
+    print(rt, &input[..n])
 }

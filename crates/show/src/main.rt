@@ -1,6 +1,8 @@
 // Prints the encoding on standard input.
 #![tactic(auto)]
 
-fn main() {
-    printing::print_input();
+use std::io;
+
+fn main(rt: HostRuntime) -> io::Result<()> {
+    printing::print_input(&rt)
 }
