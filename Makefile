@@ -1,29 +1,38 @@
 # `make run` prints the sample; `make test` passes everything, and its last line is rt's 'N passed, 0 failed'.
 .PHONY: run test format rust soak bench beside requires
 
+sources := $(shell find crates -path '*/out' -prune -o \( -name '*.rt' -o -name '*.antt' \) -print) crates.txt
+
 # the program on document 01's example P2
-run:
-	@rt check show > /dev/null
+run: target/bin/show
 	@target/bin/show < crates/show/stdin
 
-test: format rust
-	rt ci
+# the Rust tests, then the gate: it also refuses a file that is not in rt's layout
+test: rust
+	@tools/gate.sh
 
-# every file is in rt's layout
+# puts every file in rt's layout
 format:
-	rt fmt --check
+	@for crate in crates/*/; do (cd $$crate && rt fmt) || exit; done
 
 # the compiled library and the printing program against plain sets
 rust: target/staticlib/libcapi.a target/bin/show
 	cd rust && cargo test --offline --release
 
-# what the library rests on is proved first: rt check takes two crates at a time, rt staticlib one
-target/staticlib/libcapi.a target/bin/show &: $(shell find crates -name '*.rt' -o -name '*.antt') crates.txt
-	rt check weights show
-	rt staticlib capi
+# the C interface, proved with all that it rests on
+target/staticlib/libcapi.a: $(sources)
+	@mkdir -p $(@D)
+	cd crates/capi_c && rt lib
+	cp crates/capi_c/out/libcapi_c.a $@
 
-# the same for longer, with more and larger cases
-soak: target/staticlib/libcapi.a
+# the printing program, proved with all that it rests on; what rt says of it is told only if it fails
+target/bin/show: $(sources)
+	@mkdir -p $(@D)
+	@cd crates/show && rt run < stdin > /dev/null 2> ../../$@.log || { cat ../../$@.log; exit 1; }
+	@cp crates/show/out/show $@
+
+# the Rust tests for longer, with more and larger cases
+soak: target/staticlib/libcapi.a target/bin/show
 	cd rust && LOES_ROUNDS=20 cargo test --offline --release
 
 # the library beside the same algorithms in plain Rust and beside what else one would use

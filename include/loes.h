@@ -34,7 +34,7 @@
  *   - What a call works with is on the stack: allow it 704 KiB (measured: a split some 664,000
  *     bytes, every other join some 335,000 at most, every other call less than 8 KiB).
  *
- * Link with target/staticlib/libcapi.a, made by `rt staticlib capi`.
+ * Link with target/staticlib/libcapi.a, made by `make target/staticlib/libcapi.a`.
  */
 #ifndef LOES_H
 #define LOES_H

@@ -16,7 +16,7 @@ fn main() {
     println!("cargo:rerun-if-changed={}", library.display());
     let Ok(library) = library.canonicalize() else {
         eprintln!("{} is missing.", library.display());
-        eprintln!("Run `rt staticlib capi` in the repository's root, or name the file in LOES_STATICLIB.");
+        eprintln!("Run `make target/staticlib/libcapi.a` in the repository's root, or name the file in LOES_STATICLIB.");
         eprintln!("What needs no library runs with `cargo test --no-default-features`.");
         std::process::exit(1);
     };

@@ -39,8 +39,8 @@ fn the_header_has_only_total_calls() {
     let here = Path::new(env!("CARGO_MANIFEST_DIR"));
     let read = |file: &str| std::fs::read_to_string(here.join(file)).unwrap();
     let name = |text: &str| text.split('(').next().unwrap().to_string();
-    let (source, header) = (read("../crates/capi/src/lib.rt"), read("../include/loes.h"));
-    let exported = source.split("#[no_mangle]").skip(1).map(|text| text.split("\n{\n").next().unwrap());
+    let (source, header) = (read("../crates/capi_c/src/lib.rt"), read("../include/loes.h"));
+    let exported = source.split("#[unsafe(no_mangle)]").skip(1).map(|text| text.split("\n{\n").next().unwrap());
     let total: BTreeSet<String> =
         exported.filter(|head| !head.contains("requires")).map(|head| name(head.split("fn ").nth(1).unwrap())).collect();
     let declared = header.lines().filter(|line| line.starts_with("loes_") && line.contains('('));

@@ -21,7 +21,7 @@ fn shown_by_program(input: &[u8]) -> String {
         .stdin(Stdio::piped())
         .stdout(Stdio::piped())
         .spawn()
-        .unwrap_or_else(|error| panic!("{}: {error}; `rt check show` makes it", program.display()));
+        .unwrap_or_else(|error| panic!("{}: {error}; `make target/bin/show` makes it", program.display()));
     let mut stdin = child.stdin.take().unwrap();
     let input = input.to_vec();
     // the program stops reading behind a byte too many

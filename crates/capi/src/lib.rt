@@ -1,4 +1,4 @@
-// The C interface: numbers and byte strings in, small structs out. The target's uint64_t and size_t are usize.
+// The C interface: numbers and byte strings in, small structs out. Crate `capi_c` exports it. The target's uint64_t and size_t are usize.
 #![tactic(auto)]
 
 ghost use Rattle.std.specs.Prelude.{ℕ, ◌≤◌, ◌≡◌, true, List, [], ◌∷◌};
@@ -281,8 +281,7 @@ fn no_opening(k: u8) -> Opened
 }
 
 // Checks an encoding whole and tells its numbers, which are what the functions behind the check ask for.
-#[unsafe(no_mangle)]
-pub extern "C" fn loes_open(l: &[u8]) -> Opened
+pub fn loes_open(l: &[u8]) -> Opened
     ensures { (result ≡ opening_of (open_call l.now).answer) × (result.refusal ≡ 0 → Tells result.width result.count result.bits l.now) }
 {
     match encoding::open(l) {
@@ -293,32 +292,28 @@ pub extern "C" fn loes_open(l: &[u8]) -> Opened
 
 // ---- Building
 // The encoding of a batch's keys.
-#[unsafe(no_mangle)]
-pub extern "C" fn loes_pack(width: usize, batch: &[u8], out: &mut [u8]) -> Answer
+pub fn loes_pack(width: usize, batch: &[u8], out: &mut [u8]) -> Answer
     ensures { gives result (out.new ∷ []) ≡ coded (pack_call width batch.now out.old) }
 {
     written(pack::pack(width, batch, out))
 }
 
 // The keys in either set.
-#[unsafe(no_mangle)]
-pub extern "C" fn loes_union(a: &[u8], b: &[u8], out: &mut [u8]) -> Answer
+pub fn loes_union(a: &[u8], b: &[u8], out: &mut [u8]) -> Answer
     ensures { gives result (out.new ∷ []) ≡ coded (union_call a.now b.now out.old) }
 {
     written(join::union(a, b, out))
 }
 
 // The keys in the first set but not in the second.
-#[unsafe(no_mangle)]
-pub extern "C" fn loes_difference(a: &[u8], b: &[u8], out: &mut [u8]) -> Answer
+pub fn loes_difference(a: &[u8], b: &[u8], out: &mut [u8]) -> Answer
     ensures { gives result (out.new ∷ []) ≡ coded (difference_call a.now b.now out.old) }
 {
     written(join::difference(a, b, out))
 }
 
 // The keys in both sets, in the first only and in the second only.
-#[unsafe(no_mangle)]
-pub extern "C" fn loes_split(
+pub fn loes_split(
     a: &[u8],
     b: &[u8],
     both: &mut [u8],
@@ -332,48 +327,42 @@ pub extern "C" fn loes_split(
 
 // ---- Questions
 // Whether a key is a member: 1, or absent.
-#[unsafe(no_mangle)]
-pub extern "C" fn loes_contains(l: &[u8], key: &[u8]) -> Answer
+pub fn loes_contains(l: &[u8], key: &[u8]) -> Answer
     ensures { gives result [] ≡ coded (contains_call l.now key.now) }
 {
     membership(query::contains(l, key))
 }
 
 // A key's index among the members, or absent.
-#[unsafe(no_mangle)]
-pub extern "C" fn loes_index_of(l: &[u8], key: &[u8]) -> Answer
+pub fn loes_index_of(l: &[u8], key: &[u8]) -> Answer
     ensures { gives result [] ≡ coded (index_of_call l.now key.now) }
 {
     lookup(query::index_of(l, key))
 }
 
 // The index of the smallest member not below a key, or absent.
-#[unsafe(no_mangle)]
-pub extern "C" fn loes_lower_bound(l: &[u8], key: &[u8]) -> Answer
+pub fn loes_lower_bound(l: &[u8], key: &[u8]) -> Answer
     ensures { gives result [] ≡ coded (lower_bound_call l.now key.now) }
 {
     bound(query::lower_bound(l, key))
 }
 
 // Writes the member at an index to the front of a buffer.
-#[unsafe(no_mangle)]
-pub extern "C" fn loes_key_at(l: &[u8], index: MemberIndex, out: &mut [u8]) -> Answer
+pub fn loes_key_at(l: &[u8], index: MemberIndex, out: &mut [u8]) -> Answer
     ensures { gives result (out.new ∷ []) ≡ coded (key_at_call l.now index.0 out.old) }
 {
     key_written(query::key_at(l, index, out))
 }
 
 // The set edge bits strictly before an offset.
-#[unsafe(no_mangle)]
-pub extern "C" fn loes_rank(l: &[u8], offset: EdgeOffset) -> Answer
+pub fn loes_rank(l: &[u8], offset: EdgeOffset) -> Answer
     ensures { gives result [] ≡ coded (rank_call l.now offset.0) }
 {
     ranked(encoding::rank(l, offset))
 }
 
 // How many members' own first bits are smaller than a prefix, and how many begin with it.
-#[unsafe(no_mangle)]
-pub extern "C" fn loes_prefix(l: &[u8], p: usize, bytes: &[u8]) -> Range
+pub fn loes_prefix(l: &[u8], p: usize, bytes: &[u8]) -> Range
     ensures { result ≡ range_of (prefix_call l.now p bytes.now).answer }
 {
     ranged(prefix::prefix(l, p, bytes))
@@ -381,29 +370,21 @@ pub extern "C" fn loes_prefix(l: &[u8], p: usize, bytes: &[u8]) -> Range
 
 // ---- Weights
 // Adds an amount to a member's weight: 1, or absent.
-#[unsafe(no_mangle)]
-pub extern "C" fn loes_post(l: &[u8], list: &mut [i32], key: &[u8], amount: i32) -> Answer
+pub fn loes_post(l: &[u8], list: &mut [i32], key: &[u8], amount: i32) -> Answer
     ensures { gives result (outputs [] list.new) ≡ coded (post_call l.now list.old key.now amount) }
 {
     posting(weights::post(l, list, key, amount))
 }
 
 // The encoding of a batch's keys, and a list of zeros.
-#[unsafe(no_mangle)]
-pub extern "C" fn loes_pack_weighted(
-    width: usize,
-    batch: &[u8],
-    out: &mut [u8],
-    list: &mut [i32],
-) -> Answer
+pub fn loes_pack_weighted(width: usize, batch: &[u8], out: &mut [u8], list: &mut [i32]) -> Answer
     ensures { gives result (outputs (out.new ∷ []) list.new) ≡ coded (pack_weighted_call width batch.now out.old list.old) }
 {
     written(weights::pack_weighted(width, batch, out, list))
 }
 
 // The keys in either set, and their weights.
-#[unsafe(no_mangle)]
-pub extern "C" fn loes_union_weighted(
+pub fn loes_union_weighted(
     a: &[u8],
     wa: &[i32],
     b: &[u8],
@@ -417,8 +398,7 @@ pub extern "C" fn loes_union_weighted(
 }
 
 // The keys in the first set but not in the second, and their weights.
-#[unsafe(no_mangle)]
-pub extern "C" fn loes_difference_weighted(
+pub fn loes_difference_weighted(
     a: &[u8],
     wa: &[i32],
     b: &[u8],
@@ -514,8 +494,7 @@ pub fn advanced(l: &[u8], c: Cursor, out: &mut [u8]) -> CursorAnswer
 }
 
 // Moves a lent cursor on to the next member and writes its key to the front of a buffer (document 01: the step).
-#[unsafe(no_mangle)]
-pub extern "C" fn loes_advance(l: &[u8], cursor: &mut Cursor, out: &mut [u8]) -> Answer
+pub fn loes_advance(l: &[u8], cursor: &mut Cursor, out: &mut [u8]) -> Answer
     ensures { cursor_gives result cursor.new out.new ≡ cursor_call l.now cursor.old out.old }
 {
     let s = advanced(l, *cursor, out);
@@ -524,8 +503,7 @@ pub extern "C" fn loes_advance(l: &[u8], cursor: &mut Cursor, out: &mut [u8]) ->
 }
 
 // ---- Behind the check, for the Rust crate alone: an encoding by the numbers that opening told of these bytes
-#[unsafe(no_mangle)]
-pub extern "C" fn loes_unchecked_contains(
+pub fn loes_unchecked_contains(
     width: usize,
     count: usize,
     bits: usize,
@@ -540,8 +518,7 @@ pub extern "C" fn loes_unchecked_contains(
     membership(query::contains_in(l, &t, e, key))
 }
 
-#[unsafe(no_mangle)]
-pub extern "C" fn loes_unchecked_index_of(
+pub fn loes_unchecked_index_of(
     width: usize,
     count: usize,
     bits: usize,
@@ -556,8 +533,7 @@ pub extern "C" fn loes_unchecked_index_of(
     lookup(query::index_of_in(l, &t, e, key))
 }
 
-#[unsafe(no_mangle)]
-pub extern "C" fn loes_unchecked_lower_bound(
+pub fn loes_unchecked_lower_bound(
     width: usize,
     count: usize,
     bits: usize,
@@ -572,8 +548,7 @@ pub extern "C" fn loes_unchecked_lower_bound(
     bound(query::lower_bound_in(l, &t, e, key))
 }
 
-#[unsafe(no_mangle)]
-pub extern "C" fn loes_unchecked_key_at(
+pub fn loes_unchecked_key_at(
     width: usize,
     count: usize,
     bits: usize,
@@ -590,8 +565,7 @@ pub extern "C" fn loes_unchecked_key_at(
     key_written(query::key_at_in(l, &t, &places, e, index, out))
 }
 
-#[unsafe(no_mangle)]
-pub extern "C" fn loes_unchecked_rank(
+pub fn loes_unchecked_rank(
     width: usize,
     count: usize,
     bits: usize,
@@ -606,8 +580,7 @@ pub extern "C" fn loes_unchecked_rank(
     ranked(encoding::rank_in(l, &t, e, offset))
 }
 
-#[unsafe(no_mangle)]
-pub extern "C" fn loes_unchecked_prefix(
+pub fn loes_unchecked_prefix(
     width: usize,
     count: usize,
     bits: usize,
@@ -623,8 +596,7 @@ pub extern "C" fn loes_unchecked_prefix(
     ranged(prefix::prefix_in(l, &t, e, p, bytes))
 }
 
-#[unsafe(no_mangle)]
-pub extern "C" fn loes_unchecked_post(
+pub fn loes_unchecked_post(
     width: usize,
     count: usize,
     bits: usize,
@@ -654,8 +626,7 @@ fn walk_coded(w: Walked) -> StateAnswer
 }
 
 // From any cursor: 15 for what is no state, then as the cursor's step says.
-#[unsafe(no_mangle)]
-pub extern "C" fn loes_unchecked_advance(
+pub fn loes_unchecked_advance(
     width: usize,
     count: usize,
     bits: usize,
@@ -680,8 +651,7 @@ pub extern "C" fn loes_unchecked_advance(
 }
 
 // The same for a cursor that is right, as a step that was not refused 15 leaves it: 15 is not tested.
-#[unsafe(no_mangle)]
-pub extern "C" fn loes_unchecked_next(
+pub fn loes_unchecked_next(
     width: usize,
     count: usize,
     bits: usize,
@@ -699,8 +669,7 @@ pub extern "C" fn loes_unchecked_next(
 }
 
 // That step, and if it wrote a key, as many more as the buffer has room for.
-#[unsafe(no_mangle)]
-pub extern "C" fn loes_unchecked_walk(
+pub fn loes_unchecked_walk(
     width: usize,
     count: usize,
     bits: usize,
