@@ -1,5 +1,5 @@
--- Decimal digits: those that `io::decimal` puts, and how many there are. Hexadecimal digits.
-use mathlib.Core.Path.{◌≡◌, refl, ap}
+-- Decimal digits: those that std puts, and how many there are. Hexadecimal digits.
+use mathlib.Core.Path.{◌≡◌, refl, ap, ◌∙◌}
 use Prim.Native.Nat.{ℕ, zero, suc, ◌+◌, ◌-◌, ◌*◌, ◌/◌, ◌%◌, ◌^◌, ◌≤◌, ◌<◌}
 use mathlib.Core.Bool.{Bool, true, false, cond}
 use mathlib.Core.List.{[], ◌∷◌, ◌++◌}
@@ -9,39 +9,31 @@ use native.Mathlib.Numerals.{add-one}
 use lib.ListN.{length, take, get_or, length-append}
 use lib.Seq.{length-take-le, take-suc}
 use lib.Dec.{ltb}
-use Rattle.io.specs.Digits as io
+use Rattle.std.specs.Fmt as std
+use Rattle.std.proofs.lemmas.Fmt.{decimal_digit, decimal_step}
 use Rattle.loes.specs.Bytes.{Bytes}
-use Rattle.loes.proofs.Tests.{lt_yes, lt_no, no_lt}
+use Rattle.loes.proofs.Tests.{yes_lt, no_lt}
 use Rattle.printing.specs.Text.{last_digits, decimal, hex_digit, hex}
 
-glyph_is : (n : ℕ) → io.hex_digit_ascii (n % 10) ≡ 48 + n % 10
-glyph_is n = let h : n % 10 < 10 = omega arith in rw (lt_yes (n % 10) 10 h)
-
-digits_last : (f k n : ℕ) → n < f → io.IsDigitCount 10 1 n k → io.last_digits 10 k n ≡ last_digits f n
+digits_last : (f n : ℕ) → n < f → n < 2 ^ 64 → std.decimal n ≡ last_digits f n
 unfolding last_digits
-digits_last zero k n h w = absurd (omega arith)
-digits_last (suc f) zero n h w = absurd (omega (arith, w.0))
-digits_last (suc f) (suc zero) n h w =
-    let l : n < 10 = omega (arith, w.1) in
-    rw (lt_yes n 10 l, glyph_is n)
-digits_last (suc f) (suc (suc k)) n h w =
-    let p : 10 ^ suc (suc k) ≡ 10 ^ suc k * 10 = pow-suc 10 (suc k) in
-    let q : 10 ^ suc k ≡ 10 ^ k * 10 = pow-suc 10 k in
-    let y : suc (suc k) - 1 ≡ suc k = omega arith in
-    let z : suc k - 1 ≡ k = omega arith in
-    let least : 10 ^ suc k ≤ n = rw y at (w.2 (omega arith)) in
-    let one : 1 ≤ 10 ^ k = power k in
-    let again : io.last_digits 10 (suc k) (n / 10) ≡ last_digits f (n / 10) = digits_last f (suc k) (n / 10) (omega arith) (omega arith, omega (arith, w.1), λ x. rw z (omega arith)) in
-    rw (lt_no n 10 (omega arith), glyph_is n) (ap (λ l. l ++ (48 + n % 10) ∷ []) again)
+digits_last zero n h w = absurd (omega arith)
+digits_last (suc f) n h w = go (ltb n 10) refl (digits_last f)
   where
-    power : (k : ℕ) → 1 ≤ 10 ^ k
-    power zero = omega arith
-    power (suc k) = let h : 1 ≤ 10 ^ k = power k in omega (arith, pow-suc 10 k)
+    go : (b : Bool) → ltb n 10 ≡ b → ((n : ℕ) → n < f → n < 2 ^ 64 → std.decimal n ≡ last_digits f n)
+        → std.decimal n ≡ cond (ltb n 10) [] (last_digits f (n / 10)) ++ (48 + n % 10) ∷ []
+    go true e again =
+        let l : n < 10 = yes_lt n 10 e in
+        let m : n % 10 ≡ n = omega arith in
+        rw (e, m) (decimal_digit n l)
+    go false e again =
+        let l : 10 ≤ n = no_lt n 10 e in
+        rw e (decimal_step n l w ∙ ap (λ l. l ++ (48 + n % 10) ∷ []) (again (n / 10) (omega arith) (omega arith)))
 
--- what `io::decimal` puts
-pub digits_decimal : (k n : ℕ) → io.IsDigitCount 10 1 n k → io.last_digits 10 k n ≡ decimal n
+-- what std writes for a number
+pub digits_decimal : (n : ℕ) → n < 2 ^ 64 → std.decimal n ≡ decimal n
 unfolding decimal
-digits_decimal k n w = digits_last (suc n) k n (omega arith) w
+digits_decimal n w = digits_last (suc n) n (omega arith) w
 
 -- no more digits than the power of 10 that a number is below
 last_most : (f k n : ℕ) → n < 10 ^ suc k → length (last_digits f n) ≤ suc k

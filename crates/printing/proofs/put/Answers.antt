@@ -1,0 +1,5 @@
+use Rattle.printing.proofs.Putting.{puts_byte}
+use Rattle.printing.proofs.put.Goals as goal
+
+pub returns : goal.returns
+returns c = puts_byte _ _ _ c.requires
