@@ -6,14 +6,14 @@ use Rattle.capi.proofs.key_coded.Tie as tie
 absent-requires : tie.Need-absent-requires
 absent-requires c κs = search rules
 
-returns : tie.Need-returns
-returns c = rw c.before.if1.true c.absent.ensures
+returns : tie.Need-returns-then-n-eq0
+returns c = rw c.if-n-eq0.true c.absent.ensures
 
 value-requires : tie.Need-value-requires
 value-requires c κs = search rules
 
-returns-2 : tie.Need-returns-2
-returns-2 c = rw (ne_eqb _ 0 c.before.if1.false) c.value.ensures
+returns-2 : tie.Need-returns
+returns-2 c = rw (ne_eqb _ 0 c.if-n-eq0.false) c.value.ensures
 
-pub key-coded-spec : {M : Type 1} → statement M
-key-coded-spec = tie.close (tie.spec absent-requires returns value-requires returns-2)
+pub key_coded_spec : {M : Type 1} → statement M
+key_coded_spec = tie.close (tie.spec absent-requires returns value-requires returns-2)

@@ -10,7 +10,7 @@ membership-requires : tie.Need-membership-requires
 membership-requires c κs = search rules
 
 returns : tie.Need-returns
-returns c = onward c.before.contains.ensures c.membership.ensures
+returns c = onward c.contains.ensures c.membership.ensures
 
-pub loes-contains-spec : {M : Type 1} → statement M
-loes-contains-spec = tie.close (tie.spec contains-requires membership-requires returns)
+pub loes_contains_spec : {M : Type 1} → statement M
+loes_contains_spec = tie.close (tie.spec contains-requires membership-requires returns)

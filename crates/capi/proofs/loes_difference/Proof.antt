@@ -9,12 +9,12 @@ difference-requires c κs = search rules
 written-requires : tie.Need-written-requires
 written-requires c κs = search rules
 
-same_length : tie.Need-same-length
+same_length : tie.Need-shape_of-out
 same_length c = search rules
 
 returns : tie.Need-returns
-returns c = onward c.before.before.before.difference.ensures (c.written.ensures _)
+returns c = onward c.difference.ensures (c.written.ensures _)
 
-pub loes-difference-spec : {M : Type 1} → statement M
-loes-difference-spec =
+pub loes_difference_spec : {M : Type 1} → statement M
+loes_difference_spec =
     tie.close (tie.spec difference-requires written-requires same_length returns)

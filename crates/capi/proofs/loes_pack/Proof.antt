@@ -9,11 +9,11 @@ pack-requires c κs = search rules
 written-requires : tie.Need-written-requires
 written-requires c κs = search rules
 
-same_length : tie.Need-same-length
+same_length : tie.Need-shape_of-out
 same_length c = search rules
 
 returns : tie.Need-returns
-returns c = onward c.before.before.before.pack.ensures (c.written.ensures _)
+returns c = onward c.pack.ensures (c.written.ensures _)
 
-pub loes-pack-spec : {M : Type 1} → statement M
-loes-pack-spec = tie.close (tie.spec pack-requires written-requires same_length returns)
+pub loes_pack_spec : {M : Type 1} → statement M
+loes_pack_spec = tie.close (tie.spec pack-requires written-requires same_length returns)

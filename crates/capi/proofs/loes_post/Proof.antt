@@ -12,14 +12,14 @@ post-requires c κs = search rules
 posting-requires : tie.Need-posting-requires
 posting-requires c κs = search rules
 
-same_length : tie.Need-same-length
+same_length : tie.Need-shape_of-list
 same_length c = search rules
 
 returns : tie.Need-returns
 returns c =
-    let p = c.before.before in
-    let s = p.before.before.before.before in
+    let p = c in
+    let s = p in
     onward (p.post.ensures ∙ ap (post_call s.args.l.now s.args.list.now s.args.key.now) (to_z-of_z s.ranges.amount)) (c.posting.ensures _)
 
-pub loes-post-spec : {M : Type 1} → statement M
-loes-post-spec = tie.close (tie.spec post-requires posting-requires same_length returns)
+pub loes_post_spec : {M : Type 1} → statement M
+loes_post_spec = tie.close (tie.spec post-requires posting-requires same_length returns)

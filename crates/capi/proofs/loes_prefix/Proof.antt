@@ -10,7 +10,7 @@ ranged-requires : tie.Need-ranged-requires
 ranged-requires c κs = search rules
 
 returns : tie.Need-returns
-returns c = range_onward c.before.prefix.ensures c.ranged.ensures
+returns c = range_onward c.prefix.ensures c.ranged.ensures
 
-pub loes-prefix-spec : {M : Type 1} → statement M
-loes-prefix-spec = tie.close (tie.spec prefix-requires ranged-requires returns)
+pub loes_prefix_spec : {M : Type 1} → statement M
+loes_prefix_spec = tie.close (tie.spec prefix-requires ranged-requires returns)

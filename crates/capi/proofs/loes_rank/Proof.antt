@@ -10,7 +10,7 @@ ranked-requires : tie.Need-ranked-requires
 ranked-requires c κs = search rules
 
 returns : tie.Need-returns
-returns c = onward c.before.rank.ensures c.ranked.ensures
+returns c = onward c.rank.ensures c.ranked.ensures
 
-pub loes-rank-spec : {M : Type 1} → statement M
-loes-rank-spec = tie.close (tie.spec rank-requires ranked-requires returns)
+pub loes_rank_spec : {M : Type 1} → statement M
+loes_rank_spec = tie.close (tie.spec rank-requires ranked-requires returns)

@@ -6,33 +6,33 @@ use borrow.Author.Rules.{rules}
 use Rattle.capi.proofs.loes_unchecked_next.Statement.{statement}
 use Rattle.capi.proofs.loes_unchecked_next.Tie as tie
 
-new-requires : tie.Need-new-requires
-new-requires c κs = told_room _ _ _ _ c.before.before.before.requires.0
+new-requires : tie.Need-new-e-requires
+new-requires c κs = told_room _ _ _ _ c.requires.0
 
-state-of-requires : tie.Need-state-of-requires
-state-of-requires c κs = state_is _ c.before.before.before.before.requires.1
+state-of-requires : tie.Need-state_of-from-requires
+state-of-requires c κs = state_is _ c.requires.1
 
-step-right-requires : tie.Need-step-right-requires
+step-right-requires : tie.Need-step_right-requires
 step-right-requires c κs =
-    let s = c.before.before.before.before.before.before.before in
-    (told_opens _ _ _ _ s.requires.0 _ c.before.before.before.new.ensures, right_coded _ _ s.args.state _ c.before.before.state-of.ensures s.requires.2)
+    let s = c in
+    (told_opens _ _ _ _ s.requires.0 _ c.new-e.ensures, right_coded _ _ s.args.state _ c.state_of-from.ensures s.requires.2)
 
-walk-coded-requires : tie.Need-walk-coded-requires
+walk-coded-requires : tie.Need-walk_coded-requires
 walk-coded-requires c κs = search rules
 
-same_length : tie.Need-same-length
+same_length : tie.Need-shape_of-offsets
 same_length c = search rules
 
-same-length-2 : tie.Need-same-length-2
+same-length-2 : tie.Need-shape_of-out
 same-length-2 c = search rules
 
 returns : tie.Need-returns
 returns c =
-    let s = c.before.before.before.before.before.before.before.before.before.before.before.before.before in
-    call_on advance _ _ _ _ _ (told_numbers _ _ _ _ s.requires.0).reads (walked_on advance _ _ _ _ _ _ _ _ s.requires.1 c.before.before.before.before.before.before.before.before.state-of.ensures refl c.before.before.before.before.before.step_right.ensures (c.walk-coded.ensures _ _))
+    let s = c in
+    call_on advance _ _ _ _ _ (told_numbers _ _ _ _ s.requires.0).reads (walked_on advance _ _ _ _ _ _ _ _ s.requires.1 c.state_of-from.ensures refl c.step_right.ensures (c.walk_coded.ensures _ _))
 
-pub loes-unchecked-next-spec : {M : Type 1} → statement M
-loes-unchecked-next-spec =
+pub loes_unchecked_next_spec : {M : Type 1} → statement M
+loes_unchecked_next_spec =
     tie.close
     (tie.spec
     new-requires

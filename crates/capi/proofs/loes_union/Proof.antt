@@ -9,11 +9,11 @@ union-requires c κs = search rules
 written-requires : tie.Need-written-requires
 written-requires c κs = search rules
 
-same_length : tie.Need-same-length
+same_length : tie.Need-shape_of-out
 same_length c = search rules
 
 returns : tie.Need-returns
-returns c = onward c.before.before.before.union.ensures (c.written.ensures _)
+returns c = onward c.union.ensures (c.written.ensures _)
 
-pub loes-union-spec : {M : Type 1} → statement M
-loes-union-spec = tie.close (tie.spec union-requires written-requires same_length returns)
+pub loes_union_spec : {M : Type 1} → statement M
+loes_union_spec = tie.close (tie.spec union-requires written-requires same_length returns)

@@ -2,14 +2,14 @@ use borrow.Author.Tests.{ne_eqb}
 use Rattle.capi.proofs.state_of.Statement.{statement}
 use Rattle.capi.proofs.state_of.Tie as tie
 
-returns : tie.Need-returns
-returns c = rw c.if1.true
+returns : tie.Need-returns-then-s-eq-BEFORE
+returns c = rw c.if-s-eq-BEFORE.true
 
-returns-2 : tie.Need-returns-2
-returns-2 c = rw c.if2.true
+returns-2 : tie.Need-returns-then-s-eq-AT
+returns-2 c = rw c.if-s-eq-AT.true
 
-returns-3 : tie.Need-returns-3
-returns-3 c = rw (ne_eqb _ 0 c.before.if1.false, ne_eqb _ 1 c.if2.false)
+returns-3 : tie.Need-returns
+returns-3 c = rw (ne_eqb _ 0 c.if-s-eq-BEFORE.false, ne_eqb _ 1 c.if-s-eq-AT.false)
 
-pub state-of-spec : {M : Type 1} → statement M
-state-of-spec = tie.close (tie.spec returns returns-2 returns-3)
+pub state_of_spec : {M : Type 1} → statement M
+state_of_spec = tie.close (tie.spec returns returns-2 returns-3)
