@@ -1,4 +1,4 @@
-use Rattle.std.proofs.Common.{◌≡◌, ◌≤◌, length, refl, arith, rules}
+use Rattle.std.proofs.Common.{◌≤◌, length, refl, arith, rules}
 use lib.Seq.{take_all}
 use Rattle.printing.proofs.Putting.{puts_none, puts_more}
 use Rattle.printing.proofs.put_text.Goals as goal

@@ -1,0 +1,10 @@
+use Rattle.std.proofs.Common.{arith}
+use Rattle.printing.proofs.Putting.{puts_front}
+use Rattle.printing.proofs.Lines.{refused_most}
+use Rattle.printing.proofs.print_refused.Goals as goal
+
+pub put_refused-n-requires : goal.put_refused-n-requires
+put_refused-n-requires g c = omega (arith, refused_most c.args.k (omega arith))
+
+pub write_refused-requires : goal.write_refused-requires
+write_refused-requires g c = (c.requires, puts_front c.put_refused-n.ensures)
