@@ -1,4 +1,4 @@
-use Rattle.std.proofs.Common.{◌<◌, ◌≤◌, ◌≡◌, ◌-◌, length}
+use Rattle.std.proofs.Common.{◌≤◌, ◌-◌}
 use Rattle.examples.proofs.has_form.Given as goal
 
 abbrev pub invariant-loop-k : goal.invariant-loop-k

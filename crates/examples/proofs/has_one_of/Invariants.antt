@@ -1,4 +1,4 @@
-use Rattle.std.proofs.Common.{◌<◌, ◌≤◌, ◌≡◌, ◌-◌, length}
+use Rattle.std.proofs.Common.{◌≤◌, ◌-◌, length}
 use Rattle.examples.proofs.has_one_of.Given as goal
 
 abbrev pub invariant-loop-from : goal.invariant-loop-from
