@@ -6,7 +6,7 @@ usage: python3 tools/snake_names.py         at the top of the repository, once, 
 
 Types, modules and type-valued definitions keep their capital. Names of src/, of the kit's library and of what Rattle
 makes (goals, steps) stay. A new name that a module or a file already uses for something else gets `_lem`.
-Files: crates/*/specs, crates/*/proofs, the clauses of crates/*/src, crates/*/must-fail, and names between backticks in docs/*.md.
+Files: crates/*/specs, crates/*/proofs, the clauses of crates/*/src, crates/*/must-fail.
 """
 
 import os
