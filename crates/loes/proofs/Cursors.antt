@@ -10,7 +10,7 @@ use lib.Dec.{eqb}
 use Rattle.loes.specs.Limits.{max_width}
 use Rattle.loes.specs.Bytes.{odd, bit, pack_bits, same_numbers, Bytes, front}
 use Rattle.loes.specs.Keys.{Key, any_of, smaller}
-use Rattle.loes.specs.Edges.{rank, edge_offsets}
+use Rattle.loes.specs.Edges.{edge_offsets}
 use Rattle.loes.specs.Entry.{Entry, key_bytes, keys_of, count, edges_of}
 use Rattle.loes.specs.Refusals.{test, first_of}
 use Rattle.loes.specs.Model.{wrote_key}
@@ -26,13 +26,19 @@ cursor_at e i = record { state = at; offsets = padded (path_of e (get_or (keys_o
 
 pub length_offsets : (e : List Bool) (r : ℕ) (k : Key) → length (edge_offsets e r k) ≡ length k
 unfolding edge_offsets
-length_offsets e r [] = refl
-length_offsets e r (b ∷ k) = ap suc (length_offsets e (rank e (suc (2 * r + bit b))) k)
+length_offsets e r k = go k r
+  where
+    go : (k : Key) (r : ℕ) → length (edge_offsets e r k) ≡ length k
+    go [] r = refl
+    go (b ∷ k) r = ap suc (go k _)
 
 pub odd_offsets : (e : List Bool) (r : ℕ) (k : Key) → map odd (edge_offsets e r k) ≡ k
 unfolding edge_offsets
-odd_offsets e r [] = refl
-odd_offsets e r (b ∷ k) = ap₂ ◌∷◌ (odd_bit b (2 * r + bit b) (omega (arith, bit_le b))) (odd_offsets e (rank e (suc (2 * r + bit b))) k)
+odd_offsets e r k = go k r
+  where
+    go : (k : Key) (r : ℕ) → map odd (edge_offsets e r k) ≡ k
+    go [] r = refl
+    go (b ∷ k) r = ap₂ ◌∷◌ (odd_bit b (2 * r + bit b) (omega (arith, bit_le b))) (go k _)
 
 zeros_zero : (n : ℕ) → all_zero (replicate n 0) ≡ true
 unfolding all_zero any_of
