@@ -15,7 +15,7 @@ has_edge r = r.on_zero || r.on_one
 unfoldable pub children : Record → ℕ
 children r = bit r.on_zero + bit r.on_one
 
--- the record of a number below 4: 2·onZero + on_one
+-- the record of a number below 4: 2·on_zero + on_one
 unfoldable pub record_of_code : ℕ → Record
 record_of_code x = record { on_zero = odd (x / 2); on_one = odd x }
 
@@ -48,7 +48,7 @@ unfoldable pub children_before : Bytes → ℕ → ℕ
 children_before l zero = 0
 children_before l (suc i) = children_before l i + children (record_at l i)
 
--- ---- Flags: which of two sets has something, kept as a record 2·inSecond + in_first
+-- ---- Flags: which of two sets has something, kept as a record 2·in_second + in_first
 pub record Flag : Type 0 where
   pub in_first : Bool
   pub in_second : Bool

@@ -11,7 +11,7 @@ ghost use Rattle.records.specs.Tables.{spread, kept_by, either_flags, Spreads, P
 
 use bits::RecordIndex;
 
-// ---- Records in bytes, as numbers 2·onZero + on_one
+// ---- Records in bytes, as numbers 2·on_zero + on_one
 
 // Record k of a byte.
 pub fn record_in(x: u8, k: usize) -> u8
