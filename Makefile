@@ -7,8 +7,8 @@ sources := $(shell find crates -path '*/out' -prune -o \( -name '*.rt' -o -name 
 run: target/bin/show
 	@target/bin/show < crates/show/stdin
 
-# the Rust tests, then the gate: it also refuses a file that is not in rt's layout
-test: rust
+# the gate, which also refuses a file that is not in rt's layout, then the Rust tests
+test:
 	@tools/gate.sh
 
 # puts every file in rt's layout
