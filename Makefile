@@ -7,7 +7,7 @@ sources := $(shell find crates -path '*/out' -prune -o \( -name '*.rt' -o -name 
 run: target/bin/show
 	@target/bin/show < crates/show/stdin
 
-# the gate, which also refuses a file that is not in rt's layout, then the Rust tests
+# a plain `rt ci`, which also refuses a file that is not in rt's layout, then the Rust tests
 test:
 	@tools/gate.sh
 

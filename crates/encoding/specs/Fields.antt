@@ -1,6 +1,6 @@
 -- What reading the fields finds.
 use Rattle.std.specs.Prelude.{◌≡◌, ℕ, zero, suc, ◌^◌, ◌<◌, ◌&&◌, cond, eqb, ltb}
-use Rattle.std.proofs.Math.Option.{Option, none, some}
+use mathlib.Core.Option.{Option, none, some}
 use Rattle.loes.specs.Limits.{width_bytes, count_bytes}
 use Rattle.loes.specs.Bytes.{Bytes, number_at}
 use Rattle.loes.specs.Refusals.{wrong_tag, first_of}

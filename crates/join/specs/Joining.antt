@@ -1,6 +1,6 @@
 -- Union and difference as one call, and what is known on its way.
 use Rattle.std.specs.Prelude.{◌≡◌, ℕ, ◌+◌, ◌*◌, ◌/◌, ◌<◌, ◌≤◌, cond, [], ◌∷◌, length, take, eqb}
-use Rattle.std.proofs.Math.Option.{Option, some}
+use mathlib.Core.Option.{Option, some}
 use Rattle.loes.specs.Limits.{max_width, max_edges}
 use Rattle.loes.specs.Bytes.{Bytes, started, pack_bits, bits_in}
 use Rattle.loes.specs.Entry.{Entry, edges_of}

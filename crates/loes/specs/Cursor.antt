@@ -1,6 +1,6 @@
 -- The cursor (document 01: a walk's place), and advance (document 01: the step).
 use Rattle.std.specs.Prelude.{ℕ, suc, ◌-◌, Bool, ◌&&◌, cond, not, List, [], ◌∷◌, ◌++◌, length, take, drop, get_or, replicate, eqb, ltb}
-use Rattle.std.proofs.Math.Option.{Option, none, some}
+use mathlib.Core.Option.{Option, none, some}
 use Rattle.loes.specs.Limits.{max_width}
 use Rattle.loes.specs.Bytes.{Bytes, tabulate, odd, same_numbers, pack_bits, front}
 use Rattle.loes.specs.Keys.{Key, any_of, smaller}

@@ -1,6 +1,6 @@
 -- What the demands say of the calls on bytes, as propositions with no hypothesis, and all of them as one, `Demands`. The proof is proofs/Demands.antt.
 use Rattle.std.specs.Prelude.{◌≡◌, ◌↔◌, ℕ, ◌+◌, ◌*◌, ◌<◌, ◌≤◌, true, false, cond, List, [], ◌∷◌, ◌++◌, map, length, get_or}
-use Rattle.std.proofs.Math.Option.{none, some}
+use mathlib.Core.Option.{none, some}
 use Rattle.loes.specs.Bytes.{Bytes, bit, pack_bits, front}
 use Rattle.loes.specs.Keys.{Key, KeySet, less, any_of, is_prefix, members, smaller}
 use Rattle.loes.specs.Edges as sequence

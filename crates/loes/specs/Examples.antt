@@ -1,6 +1,6 @@
 -- Document 01's worked examples, and further ones, whose proof is computation; and laws of order (`Orders`).
 use Rattle.std.specs.Prelude.{◌≡◌, ℕ, true, false, List, [], ◌∷◌, ◌++◌, take, drop, get_or, replicate, eqb}
-use Rattle.std.proofs.Math.Option.{none}
+use mathlib.Core.Option.{none}
 use Rattle.loes.specs.Limits.{max_width, max_edges, max_bytes, sub_block_bits}
 use Rattle.loes.specs.Bytes.{Bytes, started, pack_bits}
 use Rattle.loes.specs.Keys.{Key, set_of}

@@ -1,6 +1,6 @@
 -- Histories: one list of calls, run by a store of encodings (document 01: the shelf) and by the model of plain sets (document 01: the table).
 use Rattle.std.specs.Prelude.{ℕ, zero, suc, List, [], ◌∷◌, ◌++◌, take}
-use Rattle.std.proofs.Math.Option.{Option, none, some}
+use mathlib.Core.Option.{Option, none, some}
 use Rattle.loes.specs.Bytes.{Bytes}
 use Rattle.loes.specs.Entry.{Entry}
 use Rattle.loes.specs.Model.{Answer, refused, wrote, wrote_key, tells, is_present, is_absent, is_none, is_posted, index_is, rank_is, range_is, Outcome, Step, pack, union, difference, split, contains, index_of, key_at, rank_at, lower_bound, prefix}

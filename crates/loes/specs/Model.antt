@@ -1,6 +1,6 @@
 -- The model: what each call answers on entries, and every lent buffer after it (document 01: the table's steps).
 use Rattle.std.specs.Prelude.{ℕ, ◌*◌, ◌/◌, ◌%◌, Bool, true, false, ◌||◌, cond, not, List, [], ◌∷◌, ◌++◌, map, length, take, drop, get_or, eqb, ltb}
-use Rattle.std.proofs.Math.Option.{Option, none, some}
+use mathlib.Core.Option.{Option, none, some}
 use Rattle.loes.specs.Bytes.{Bytes, tabulate, pack_bits, bits_in, front}
 use Rattle.loes.specs.Keys.{Key, those, any_of, less, is_prefix, smaller, set_of, either, without, in_both}
 use Rattle.loes.specs.Edges.{rank}

@@ -1,7 +1,7 @@
 -- Reading bytes: the refusal of a list that is no encoding, or the entry whose encoding it is.
 use Rattle.std.specs.Prelude.{ℕ, ◌+◌, ◌-◌, ◌*◌, Bool, not, length, drop, get_or, eqb, ltb}
 use mathlib.Core.List.{List, [], ◌∷◌, flatten}
-use Rattle.std.proofs.Math.Option.{Option, none, some}
+use mathlib.Core.Option.{Option, none, some}
 use Rattle.loes.specs.Limits.{block_bits, sub_block_bits, tag_bytes, length_bytes, head_bytes, width_bytes, count_bytes, level_entry, block_entry, sub_block_entry}
 use Rattle.loes.specs.Bytes.{Bytes, same_numbers, started, number_at, bits_in}
 use Rattle.loes.specs.Edges.{present}

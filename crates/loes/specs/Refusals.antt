@@ -1,6 +1,6 @@
 -- Refusals: their numbers, and tests in order of which the first to hold gives its number.
 use Rattle.std.specs.Prelude.{ℕ, Bool, cond, List, [], ◌∷◌}
-use Rattle.std.proofs.Math.Option.{Option, none, some}
+use mathlib.Core.Option.{Option, none, some}
 
 -- ---- Whoever sent the encoding
 -- fewer than 3 bytes remain for a field's tag and length, or fewer than its length says

@@ -1,7 +1,7 @@
 -- A batch: its keys, and what is tested of them.
 use Rattle.std.specs.Prelude.{◌≡◌, ℕ, zero, suc, ◌-◌, ◌*◌, ◌/◌, ◌^◌, ◌<◌, ◌≤◌, Bool, false, length, get_or, drop, replicate}
 use mathlib.Core.List.{List, [], ◌++◌, flatten}
-use Rattle.std.proofs.Math.Option.{none, some}
+use mathlib.Core.Option.{none, some}
 use Rattle.loes.specs.Limits.{max_width}
 use Rattle.loes.specs.Bytes.{Bytes, odd, tabulate, started}
 use Rattle.loes.specs.Keys.{Key, KeySet}

@@ -1,6 +1,6 @@
 -- What is answered for a batch: pack's tests up to 5, and room for the edge bytes of its entry.
 use Rattle.std.specs.Prelude.{◌≡◌, ℕ, ◌<◌, List, [], ◌∷◌, ◌++◌, length, get_or}
-use Rattle.std.proofs.Math.Option.{none, some}
+use mathlib.Core.Option.{none, some}
 use Rattle.loes.specs.Limits.{max_width}
 use Rattle.loes.specs.Bytes.{Bytes, started}
 use Rattle.loes.specs.Prefixes.{records_before}

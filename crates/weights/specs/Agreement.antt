@@ -1,6 +1,6 @@
 -- What holds of the calls with weights, as one proposition with no hypothesis, `WeightsAgree`. The proof is proofs/Agreement.antt.
 use Rattle.std.specs.Prelude.{◌≡◌, ◌↔◌, ◌⊎◌, ℕ, ◌<◌, ◌≤◌, true, false, ◌||◌, List, [], ◌∷◌, ◌++◌, map, ℤ, pos, negsuc, ◌+ℤ◌, ◌-ℤ◌, ◌≤ℤ◌, length, get_or, set, ltb}
-use Rattle.std.proofs.Math.Option.{none, some}
+use mathlib.Core.Option.{none, some}
 use Rattle.loes.specs.Bytes.{Bytes, front}
 use Rattle.loes.specs.Keys.{Key, any_of, smaller}
 use Rattle.loes.specs.Entry.{Entry, keys_of, count, edge_count, too_many_edges, Valid}

@@ -1,6 +1,6 @@
 -- Worked examples of weights. The proof of each is computation.
 use Rattle.std.specs.Prelude.{◌≡◌, ℕ, false, List, [], ◌∷◌, ◌++◌, map, ℤ, pos, negsuc, length, get_or, replicate}
-use Rattle.std.proofs.Math.Option.{Option, none, some}
+use mathlib.Core.Option.{Option, none, some}
 use Rattle.loes.specs.Bytes.{Bytes}
 use Rattle.loes.specs.Encode.{encode}
 use Rattle.loes.specs.Examples.{P1, P2, room, left, right, entry_of}

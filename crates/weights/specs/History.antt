@@ -1,6 +1,6 @@
 -- Weighted histories: one list of calls, run by a store of encodings with their lists (document 02, slip 1: the shelf), and by accounts that know nothing of the store.
 use Rattle.std.specs.Prelude.{ℕ, Bool, true, false, ◌&&◌, cond, List, [], ◌∷◌, ◌++◌, map, ℤ, ◌+ℤ◌, take, get_or, set}
-use Rattle.std.proofs.Math.Option.{Option, none, some}
+use mathlib.Core.Option.{Option, none, some}
 use Rattle.loes.specs.Bytes.{Bytes}
 use Rattle.loes.specs.Keys.{Key, those, same_key}
 use Rattle.loes.specs.Entry.{Entry, keys_of, count}

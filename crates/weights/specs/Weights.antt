@@ -1,6 +1,6 @@
 -- Weights (document 02, slip 1: kilograms): a list of signed numbers beside an encoding; entry i is the weight of the key at index i.
 use Rattle.std.specs.Prelude.{ℕ, Bool, ◌&&◌, ◌||◌, cond, not, List, [], ◌∷◌, ◌++◌, map, ℤ, pos, negsuc, ◌+ℤ◌, length, get_or, set, eqb, ltb}
-use Rattle.std.proofs.Math.Option.{Option}
+use mathlib.Core.Option.{Option}
 use Rattle.std.specs.Int.Signed.{lt_z}
 use Rattle.loes.specs.Bytes.{Bytes, front}
 use Rattle.loes.specs.Keys.{Key, any_of, smaller}
