@@ -2,7 +2,7 @@
 #![tactic(auto)]
 
 ghost use Rattle.std.specs.Prelude.{◌≡◌, ℕ, ◌+◌, ◌-◌, ◌*◌, ◌/◌, ◌%◌, ◌^◌, ◌<◌, ◌≤◌, length, drop, get_or, replicate};
-ghost use Rattle.std.proofs.Math.Option.{none};
+ghost use mathlib.Core.Option.{none};
 ghost use Rattle.loes.specs.Limits.{max_width, max_edges};
 ghost use Rattle.loes.specs.Edges.{edges as edgeSequence};
 ghost use Rattle.loes.specs.Bytes.{pack_bits, bit, bit_at};
