@@ -1,0 +1,22 @@
+use native.Mathlib.Omega.{arith}
+use Rattle.loes.specs.Cursor.{offsets_right}
+use Rattle.encoding.proofs.Opened.{opens_room}
+use Rattle.cursor.proofs.Stepping.{right_in, right_not}
+use Rattle.cursor.proofs.is_cursor.Goals as goal
+
+pub returns-then-path-ne-MAX_WIDTH : goal.returns-then-path-ne-MAX_WIDTH
+returns-then-path-ne-MAX_WIDTH c = right_not _ c.args.s c.args.path.now c.if-path-ne-MAX_WIDTH.true
+
+pub at_member-requires : goal.at_member-requires
+at_member-requires c = (c.requires.0, c.requires.1, omega (arith, c.if-path-ne-MAX_WIDTH.false, (opens_room _ _ c.requires.0).narrow))
+
+pub returns-in-At : goal.returns-in-At
+returns-in-At c = right_in _ _ _ _ _ c.if-path-ne-MAX_WIDTH.false c.in-At.is c.at_member.ensures
+
+pub returns-in-Before : goal.returns-in-Before
+unfolding offsets_right
+returns-in-Before c = right_in _ _ _ _ _ c.if-path-ne-MAX_WIDTH.false c.in-Before.is c.zeros_from.ensures
+
+pub returns-in-After : goal.returns-in-After
+unfolding offsets_right
+returns-in-After c = right_in _ _ _ _ _ c.if-path-ne-MAX_WIDTH.false c.in-After.is c.zeros_from-in-After.ensures

@@ -1,0 +1,84 @@
+use mathlib.Core.Path.{◌≡◌}
+use native.Mathlib.Omega.{arith}
+use Prim.Native.Nat.{◌+◌, ◌-◌, ◌≤◌}
+use lib.ListN.{length}
+use Rattle.loes.specs.Bytes.{started}
+use Rattle.loes.specs.Entry.{key_bytes}
+use Rattle.loes.specs.Read.{entry_in}
+use Rattle.encoding.proofs.Opened.{opens_valid, opens_room}
+use Rattle.cursor.proofs.Stepping.{positive}
+use Rattle.cursor.proofs.Filling.{WalkSoFar, walk_start, walk_levels, walk_full, walk_more, walk_last}
+use borrow.Rule.Slice.PartMut.{put_mid}
+use borrow.Author.Rules.{rules}
+use Rattle.cursor.proofs.steps_on.Goals as goal
+
+pub bytes_for-t-requires : goal.bytes_for-t-requires
+bytes_for-t-requires c = omega (arith, (opens_room _ _ c.requires.0).narrow)
+
+pub loop-out-init : goal.loop-out-init
+loop-out-init c = walk_start _ _ _ _ c.requires.1 c.requires.2
+
+pub overflow_sub-out : goal.overflow_sub-out
+overflow_sub-out c = c.loop-out.invariant.inside
+
+pub slice_bounds-step_right-count : goal.slice_bounds-step_right-count
+slice_bounds-step_right-count c = c.loop-out.invariant.inside
+
+pub slice_bounds-step_right-start : goal.slice_bounds-step_right-start
+slice_bounds-step_right-start c = let z = c.loop-out.invariant.inside in search rules
+
+pub step_right-w-requires : goal.step_right-w-requires
+step_right-w-requires c = (c.requires.0, c.loop-out.invariant.right)
+
+pub shape_of-path-then-n-eq0 : goal.shape_of-path-then-n-eq0
+shape_of-path-then-n-eq0 c =
+    let levels : length c.loop-out.path ≡ length c.args.path.now = walk_levels _ _ _ _ _ _ _ c.loop-out.invariant c.requires.1 in
+    let z = levels in search rules
+
+pub shape_of-out-then-n-eq0 : goal.shape_of-out-then-n-eq0
+shape_of-out-then-n-eq0 c = let z = c.loop-out.invariant.size in search rules
+
+pub returns-then-n-eq0 : goal.returns-then-n-eq0
+unfolding key_bytes started
+returns-then-n-eq0 c =
+    let room : key_bytes (entry_in c.args.l.now).width ≤ length c.loop-out.out - c.loop-out.at = omega (arith, c.bytes_for-t.ensures.0, c.loop-out-test.true, c.requires.0.width) in
+    walk_last _ _ _ _ _ _ _ c.loop-out.invariant (opens_valid _ _ c.requires.0) room c.step_right-w.result _ _ c.step_right-w.ensures _ c.bytes_of-n.ensures c.if-n-eq0.true
+
+pub overflow_add-at : goal.overflow_add-at
+unfolding key_bytes started
+overflow_add-at c =
+    let room : key_bytes (entry_in c.args.l.now).width ≤ length c.loop-out.out - c.loop-out.at = omega (arith, c.bytes_for-t.ensures.0, c.loop-out-test.true, c.requires.0.width) in
+    let on : WalkSoFar (entry_in c.args.l.now) c.args.from c.args.path.now c.args.out.now c.step_right-w.new.path
+    (put_mid c.loop-out.at (length c.loop-out.out - c.loop-out.at) c.loop-out.out c.step_right-w.new.out) (c.loop-out.at + c.bytes_of-n.result) =
+    walk_more _ _ _ _ _ _ _ c.loop-out.invariant (opens_valid _ _ c.requires.0) room c.step_right-w.result _ _ c.step_right-w.ensures _ c.bytes_of-n.ensures c.if-n-eq0.false in
+    omega (arith, on.inside, on.size)
+
+pub loop-out-smaller : goal.loop-out-smaller
+unfolding key_bytes started
+loop-out-smaller c =
+    let room : key_bytes (entry_in c.args.l.now).width ≤ length c.loop-out.out - c.loop-out.at = omega (arith, c.bytes_for-t.ensures.0, c.loop-out-test.true, c.requires.0.width) in
+    let on : WalkSoFar (entry_in c.args.l.now) c.args.from c.args.path.now c.args.out.now c.step_right-w.new.path
+    (put_mid c.loop-out.at (length c.loop-out.out - c.loop-out.at) c.loop-out.out c.step_right-w.new.out) (c.loop-out.at + c.bytes_of-n.result) =
+    walk_more _ _ _ _ _ _ _ c.loop-out.invariant (opens_valid _ _ c.requires.0) room c.step_right-w.result _ _ c.step_right-w.ensures _ c.bytes_of-n.ensures c.if-n-eq0.false in
+    omega (arith, on.inside, on.size, positive _ c.if-n-eq0.false)
+
+pub loop-out-preserved : goal.loop-out-preserved
+unfolding key_bytes started
+loop-out-preserved c =
+    let room : key_bytes (entry_in c.args.l.now).width ≤ length c.loop-out.out - c.loop-out.at = omega (arith, c.bytes_for-t.ensures.0, c.loop-out-test.true, c.requires.0.width) in
+    let on : WalkSoFar (entry_in c.args.l.now) c.args.from c.args.path.now c.args.out.now c.step_right-w.new.path
+    (put_mid c.loop-out.at (length c.loop-out.out - c.loop-out.at) c.loop-out.out c.step_right-w.new.out) (c.loop-out.at + c.bytes_of-n.result) =
+    walk_more _ _ _ _ _ _ _ c.loop-out.invariant (opens_valid _ _ c.requires.0) room c.step_right-w.result _ _ c.step_right-w.ensures _ c.bytes_of-n.ensures c.if-n-eq0.false in
+    on
+
+pub shape_of-path : goal.shape_of-path
+shape_of-path c =
+    let levels : length c.loop-out.path ≡ length c.args.path.now = walk_levels _ _ _ _ _ _ _ c.loop-out.invariant c.requires.1 in
+    levels
+
+pub shape_of-out : goal.shape_of-out
+shape_of-out c = c.loop-out.invariant.size
+
+pub returns : goal.returns
+unfolding key_bytes started
+returns c = walk_full _ _ _ _ _ _ _ c.loop-out.invariant (omega (arith, c.bytes_for-t.ensures.0, c.loop-out-test.false, c.requires.0.width))
