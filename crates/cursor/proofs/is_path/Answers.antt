@@ -15,15 +15,6 @@ use Rattle.cursor.proofs.is_path.Goals as goal
 pub loop-d-init : goal.loop-d-init
 loop-d-init c = (omega arith, check_first _ _)
 
-pub offset_bounds-path-d : goal.offset_bounds-path-d
-offset_bounds-path-d c = omega (arith, (opens_room _ _ c.requires.0).narrow)
-
-pub bounds-path-d : goal.bounds-path-d
-bounds-path-d c = omega (arith, c.requires.2, c.loop-d-test.true)
-
-pub leads_on-on-requires : goal.leads_on-on-requires
-leads_on-on-requires c = c.requires.0
-
 pub returns-then-not-on : goal.returns-then-not-on
 returns-then-not-on c = check_fail _ _ (omega (arith, c.requires.2, c.requires.0.width)) _ _ c.loop-d.invariant.1 (omega (arith, c.loop-d-test.true, c.requires.0.width)) (sym c.leads_on-on.ensures ∙ was_false _ (ap not c.if-not-on.true))
 
@@ -40,12 +31,6 @@ overflow_add-r c =
     let on : leads_on (edges_of (entry_in c.args.l.now)) c.loop-d.r (get_or c.args.path.now c.loop-d.d 0) ≡ true = sym c.leads_on-on.ensures ∙ not_false _ (ap not c.if-not-on.false) in
     let z = check_below _ _ _ on in
     omega (arith, z, c.ones_before-r.ensures, (rank_le (edges_of (entry_in c.args.l.now)) (get_or c.args.path.now c.loop-d.d 0)).0, c.requires.0.bits, (opens_room _ _ c.requires.0).few)
-
-pub overflow_add-d : goal.overflow_add-d
-overflow_add-d c = omega (arith, (opens_room _ _ c.requires.0).narrow, c.loop-d-test.true)
-
-pub loop-d-smaller : goal.loop-d-smaller
-loop-d-smaller c = omega (arith, c.loop-d-test.true)
 
 pub loop-d-preserved : goal.loop-d-preserved
 loop-d-preserved c =

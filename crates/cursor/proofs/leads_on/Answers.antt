@@ -10,8 +10,5 @@ pub returns-then-e-o : goal.returns-then-e-o
 unfolding edge_count
 returns-then-e-o c = leads_past _ _ _ (omega (arith, c.if-e-o.true, c.requires.bits))
 
-pub edge_at-requires : goal.edge_at-requires
-edge_at-requires c = (c.requires, c.if-e-o.false)
-
 pub returns : goal.returns
 returns c = leads_bit _ _ _ _ c.if-o-r.false c.edge_at.ensures

@@ -4,18 +4,9 @@ use Rattle.loes.proofs.Cursors.{right_before}
 use Rattle.cursor.proofs.Stepping.{after_stays, state_right, step_in}
 use Rattle.cursor.proofs.step_right.Goals as goal
 
-pub step_at-requires : goal.step_at-requires
-step_at-requires c = (c.requires.0, state_right _ _ _ _ c.in-At.is c.requires.1)
-
 pub step_before-requires : goal.step_before-requires
 unfolding padded
 step_before-requires c = (c.requires.0, right_before (entry_in c.args.l.now) _ (state_right (entry_in c.args.l.now) _ _ _ c.in-Before.is c.requires.1))
-
-pub returns-in-At : goal.returns-in-At
-returns-in-At c = step_in _ _ _ _ _ _ c.in-At.is c.step_at.ensures
-
-pub returns-in-Before : goal.returns-in-Before
-returns-in-Before c = step_in _ _ _ _ _ _ c.in-Before.is c.step_before.ensures
 
 pub returns-in-After : goal.returns-in-After
 returns-in-After c = let t = c.in-After.is in step_in _ _ _ _ _ _ t (after_stays _ _ _ (state_right _ _ _ _ t c.requires.1))

@@ -18,26 +18,6 @@ bytes_for-t-requires c = omega (arith, (opens_room _ _ c.requires.0).narrow)
 pub loop-out-init : goal.loop-out-init
 loop-out-init c = walk_start _ _ _ _ c.requires.1 c.requires.2
 
-pub overflow_sub-out : goal.overflow_sub-out
-overflow_sub-out c = c.loop-out.invariant.inside
-
-pub slice_bounds-step_right-count : goal.slice_bounds-step_right-count
-slice_bounds-step_right-count c = c.loop-out.invariant.inside
-
-pub slice_bounds-step_right-start : goal.slice_bounds-step_right-start
-slice_bounds-step_right-start c = let z = c.loop-out.invariant.inside in search rules
-
-pub step_right-w-requires : goal.step_right-w-requires
-step_right-w-requires c = (c.requires.0, c.loop-out.invariant.right)
-
-pub shape_of-path-then-n-eq0 : goal.shape_of-path-then-n-eq0
-shape_of-path-then-n-eq0 c =
-    let levels : length c.loop-out.path ≡ length c.args.path.now = walk_levels _ _ _ _ _ _ _ c.loop-out.invariant c.requires.1 in
-    let z = levels in search rules
-
-pub shape_of-out-then-n-eq0 : goal.shape_of-out-then-n-eq0
-shape_of-out-then-n-eq0 c = let z = c.loop-out.invariant.size in search rules
-
 pub returns-then-n-eq0 : goal.returns-then-n-eq0
 unfolding key_bytes started
 returns-then-n-eq0 c =
@@ -70,14 +50,6 @@ loop-out-preserved c =
     (put_mid c.loop-out.at (length c.loop-out.out - c.loop-out.at) c.loop-out.out c.step_right-w.new.out) (c.loop-out.at + c.bytes_of-n.result) =
     walk_more _ _ _ _ _ _ _ c.loop-out.invariant (opens_valid _ _ c.requires.0) room c.step_right-w.result _ _ c.step_right-w.ensures _ c.bytes_of-n.ensures c.if-n-eq0.false in
     on
-
-pub shape_of-path : goal.shape_of-path
-shape_of-path c =
-    let levels : length c.loop-out.path ≡ length c.args.path.now = walk_levels _ _ _ _ _ _ _ c.loop-out.invariant c.requires.1 in
-    levels
-
-pub shape_of-out : goal.shape_of-out
-shape_of-out c = c.loop-out.invariant.size
 
 pub returns : goal.returns
 unfolding key_bytes started

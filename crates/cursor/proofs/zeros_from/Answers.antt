@@ -3,9 +3,6 @@ use native.Mathlib.Omega.{arith}
 use Rattle.cursor.proofs.Offsets.{zeros_more, zeros_end}
 use Rattle.cursor.proofs.zeros_from.Goals as goal
 
-pub loop-i-init : goal.loop-i-init
-loop-i-init c = (c.requires, refl)
-
 pub loop-i-preserved : goal.loop-i-preserved
 loop-i-preserved c = (omega arith, c.loop-i.invariant.1 ∙ zeros_more c.args.path.now c.loop-i.i c.loop-i.set c.loop-i-test.true)
 
