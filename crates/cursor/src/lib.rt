@@ -1,7 +1,7 @@
 // A cursor over an encoding's members, and the step that moves it on.
 #![tactic(auto)]
 
-ghost use Rattle.std.specs.Prelude.{ℕ, ◌+◌, ◌-◌, ◌*◌, ◌/◌, ◌<◌, ◌≤◌, ◌≡◌, true, false, [], length, get_or, drop, replicate};
+ghost use Rattle.std.specs.Prelude.{ℕ, ◌+◌, ◌-◌, ◌*◌, ◌/◌, ◌<◌, ◌≤◌, ◌≡◌, true, false, [], length, get_or, drop, replicate, MatchOption};
 ghost use Rattle.loes.specs.Limits.{max_width};
 ghost use Rattle.loes.specs.Bytes.{front};
 ghost use Rattle.loes.specs.Entry.{keys_of, edges_of};
@@ -53,13 +53,9 @@ impl Cursor {
 fn numbers_of(c: Cursor) -> [usize; Encoding::MAX_WIDTH]
     ensures { result ≡ numbers c.offsets }
 {
-    let offsets = c.offsets;
     let mut path = [0usize; Encoding::MAX_WIDTH];
-    let mut d: usize = 0;
-    while d < Encoding::MAX_WIDTH {
-        let o = offsets[d];
-        path[d] = o.0;
-        d += 1;
+    for (d, offset) in c.offsets.iter().enumerate() {
+        path[d] = offset.0;
     }
     path
 }
@@ -69,10 +65,8 @@ fn offsets_of(path: [usize; Encoding::MAX_WIDTH]) -> [EdgeOffset; Encoding::MAX_
     ensures { numbers result ≡ path }
 {
     let mut offsets = [EdgeOffset(0); Encoding::MAX_WIDTH];
-    let mut d: usize = 0;
-    while d < Encoding::MAX_WIDTH {
-        offsets[d] = EdgeOffset(path[d]);
-        d += 1;
+    for (d, offset) in path.iter().enumerate() {
+        offsets[d] = EdgeOffset(*offset);
     }
     offsets
 }
@@ -104,13 +98,7 @@ fn leads_on(l: &[u8], e: Encoding, r: RecordIndex, o: EdgeOffset) -> bool
     requires { Opens l.now e }
     ensures { result ≡ leads_on (edges_of (entry_in l.now)) r.0 o.0 }
 {
-    if o.0 / 2 != r.0 {
-        return false;
-    }
-    if e.bits <= o.0 {
-        return false;
-    }
-    encoding::edge_at(l, e, o)
+    o.0 / 2 == r.0 && o.0 < e.bits && encoding::edge_at(l, e, o)
 }
 
 // Whether offsets begin with a member's path: level by level, each leads on.
@@ -118,31 +106,23 @@ fn is_path(l: &[u8], t: &[u8], e: Encoding, path: &[usize]) -> bool
     requires { Opens l.now e × Tallies t.now × (e.width ≤ length path.now) }
     ensures { result ≡ has_path (entry_in l.now) path.now }
 {
-    let m = e.width;
-    let mut r: usize = 0;
-    let mut d: usize = 0;
-    while d < m {
-        let o = path[d];
-        let on = leads_on(l, e, RecordIndex(r), EdgeOffset(o));
-        if !on {
+    let mut record: usize = 0;
+    for offset in &path[..e.width] {
+        if !leads_on(l, e, RecordIndex(record), EdgeOffset(*offset)) {
             return false;
         }
-        r = encoding::ones_before(l, t, e, EdgeOffset(o)) + 1;
-        d += 1;
+        record = encoding::ones_before(l, t, e, EdgeOffset(*offset)) + 1;
     }
     true
 }
 
-// Whether the offsets from a level on are all 0, with no branch by one of them.
-fn zeros_from(path: &[usize], from: usize) -> bool
-    requires { from ≤ length path.now }
-    ensures { result ≡ spec.all_zero (drop from path.now) }
+// Whether offsets are all 0, with no branch by one of them.
+fn are_zeros(offsets: &[usize]) -> bool
+    ensures { result ≡ spec.all_zero offsets.now }
 {
     let mut set: usize = 0;
-    let mut i = from;
-    while i < path.len() {
-        set |= path[i];
-        i += 1;
+    for offset in offsets {
+        set |= *offset;
     }
     set == 0
 }
@@ -152,10 +132,7 @@ fn at_member(l: &[u8], t: &[u8], e: Encoding, path: &[usize]) -> bool
     requires { Opens l.now e × Tallies t.now × (e.width ≤ length path.now) }
     ensures { result ≡ spec.offsets_right (entry_in l.now) (cursor_with spec.at path.now) }
 {
-    if is_path(l, t, e, path) {
-        return zeros_from(path, e.width);
-    }
-    false
+    is_path(l, t, e, path) && are_zeros(&path[e.width..])
 }
 
 // Whether a state and offsets are a cursor of this encoding: 256 of them, a member's path or zeros alone.
@@ -168,8 +145,7 @@ fn is_cursor(l: &[u8], t: &[u8], e: Encoding, s: State, path: &[usize]) -> bool
     }
     match s {
         State::At => at_member(l, t, e, path),
-        State::Before => zeros_from(path, 0),
-        State::After => zeros_from(path, 0),
+        State::Before | State::After => are_zeros(path),
     }
 }
 
@@ -179,9 +155,7 @@ fn record_at(l: &[u8], e: Encoding, r: RecordIndex) -> usize
     requires { Opens l.now e × (2 * r.0 < e.bits) }
     ensures { result ≡ record_code (edges_of (entry_in l.now)) r.0 }
 {
-    let at = e.edges + r.0 / 4;
-    let z = records::record_in(l[at], r.0 % 4);
-    z as usize
+    records::record_in(l[e.edges + r.0 / 4], r.0 % 4) as usize
 }
 
 // Whether the next set bit is in the same record, from a set bit: the record has both edges, and this is the first. No branch goes by the edges.
@@ -189,25 +163,21 @@ fn turns_on(l: &[u8], e: Encoding, o: EdgeOffset) -> bool
     requires { Opens l.now e × (get_or (edges_of (entry_in l.now)) o.0 false ≡ true) }
     ensures { result ≡ turns (edges_of (entry_in l.now)) o.0 }
 {
-    let z = record_at(l, e, RecordIndex(o.0 / 2));
-    z + 4 * (o.0 % 2) == 3
+    let record = record_at(l, e, RecordIndex(o.0 / 2));
+    record + 4 * (o.0 % 2) == 3
 }
 
-// 1 more than the greatest level on which a path turns; 0 if it turns on none.
-fn turn_level(l: &[u8], e: Encoding, path: &[usize]) -> usize
+// The greatest level on which a path turns, if it turns on one.
+fn turn_level(l: &[u8], e: Encoding, path: &[usize]) -> Option<usize>
     requires { Opens l.now e × (e.width ≤ length path.now) × ((j : ℕ) → j < e.width → get_or (edges_of (entry_in l.now)) (get_or path.now j 0) false ≡ true) }
-    ensures { TurnsAt (edges_of (entry_in l.now)) e.width path.now result }
+    ensures { MatchOption result (TurnsAt (edges_of (entry_in l.now)) e.width path.now 0) (λ (level : ℕ). TurnsAt (edges_of (entry_in l.now)) e.width path.now (level + 1)) }
 {
-    let mut d = e.width;
-    while 0 < d {
-        let o = path[d - 1];
-        let turn = turns_on(l, e, EdgeOffset(o));
-        if turn {
-            return d;
+    for d in (0..e.width).rev() {
+        if turns_on(l, e, EdgeOffset(path[d])) {
+            return Some(d);
         }
-        d -= 1;
     }
-    0
+    None
 }
 
 // The first set bit of a record.
@@ -215,8 +185,8 @@ fn first_edge(l: &[u8], e: Encoding, r: RecordIndex) -> EdgeOffset
     requires { Opens l.now e × (2 * r.0 < e.bits) }
     ensures { result.0 ≡ first_edge (edges_of (entry_in l.now)) r.0 }
 {
-    let z = record_at(l, e, r);
-    EdgeOffset(2 * r.0 + (1 - z / 2))
+    let record = record_at(l, e, r);
+    EdgeOffset(2 * r.0 + (1 - record / 2))
 }
 
 // The offset behind q on level d of a path that turns on level t: there the next one, on greater levels the first of the next record.
@@ -235,14 +205,8 @@ fn move_on(l: &[u8], e: Encoding, t: usize, path: &mut [usize])
     requires { Opens l.now e × Movable e.bits e.width t path.old }
     ensures { Moved (edges_of (entry_in l.now)) e.width t path.old path.new }
 {
-    let m = e.width;
-    let mut d = t;
-    while d < m {
-        let q = path[d];
-        let x = next_offset(l, e, t, d, EdgeOffset(q));
-        let next = x.0;
-        path[d] = next;
-        d += 1;
+    for d in t..e.width {
+        path[d] = next_offset(l, e, t, d, EdgeOffset(path[d])).0;
     }
 }
 
@@ -251,27 +215,10 @@ fn first_path(l: &[u8], e: Encoding, path: &mut [usize])
     requires { Opens l.now e × (0 < e.bits) × (e.width ≤ length path.old) }
     ensures { path.new ≡ front (spec.path_of (entry_in l.now) (get_or (keys_of (entry_in l.now)) 0 [])) path.old }
 {
-    let m = e.width;
-    let mut r: usize = 0;
-    let mut d: usize = 0;
-    while d < m {
-        let x = first_edge(l, e, RecordIndex(r));
-        let o = x.0;
-        path[d] = o;
-        let end = encoding::level_end(l, e, d);
-        r = end.0 / 2;
-        d += 1;
-    }
-}
-
-// All offsets 0.
-fn clear(path: &mut [usize])
-    ensures { path.new ≡ replicate (length path.old) 0 }
-{
-    let mut d: usize = 0;
-    while d < path.len() {
-        path[d] = 0;
-        d += 1;
+    let mut record: usize = 0;
+    for d in 0..e.width {
+        path[d] = first_edge(l, e, RecordIndex(record)).0;
+        record = encoding::level_end(l, e, d).0 / 2;
     }
 }
 
@@ -281,26 +228,22 @@ fn step_at(l: &[u8], e: Encoding, path: &mut [usize], out: &mut [u8]) -> Walked
     requires { Opens l.now e × (spec.is_cursor_of (entry_in l.now) (cursor_with spec.at path.old) ≡ true) }
     ensures { walked_of result path.new out.new ≡ spec.advance (entry_in l.now) (cursor_with spec.at path.old) out.old }
 {
-    let level = turn_level(l, e, path);
-    if level == 0 {
-        clear(path);
-        let nothing = StepAnswer::Wrote(0);
+    let Some(level) = turn_level(l, e, path) else {
+        path.fill(0);
         return Walked {
-            answer: nothing,
+            answer: StepAnswer::Wrote(0),
             state: State::After,
         };
-    }
-    let m = e.width;
-    if out.len() < bits::bytes_for(m) {
+    };
+    if out.len() < bits::bytes_for(e.width) {
         return Walked {
             answer: StepAnswer::Refused(SHORT_BUFFER),
             state: State::At,
         };
     }
-    move_on(l, e, level - 1, path);
-    let n = query::write_key(path, m, out);
+    move_on(l, e, level, path);
     Walked {
-        answer: StepAnswer::Wrote(n),
+        answer: StepAnswer::Wrote(query::write_key(path, e.width, out)),
         state: State::At,
     }
 }
@@ -316,17 +259,15 @@ fn step_before(l: &[u8], e: Encoding, path: &mut [usize], out: &mut [u8]) -> Wal
             state: State::After,
         };
     }
-    let m = e.width;
-    if out.len() < bits::bytes_for(m) {
+    if out.len() < bits::bytes_for(e.width) {
         return Walked {
             answer: StepAnswer::Refused(SHORT_BUFFER),
             state: State::Before,
         };
     }
     first_path(l, e, path);
-    let n = query::write_key(path, m, out);
     Walked {
-        answer: StepAnswer::Wrote(n),
+        answer: StepAnswer::Wrote(query::write_key(path, e.width, out)),
         state: State::At,
     }
 }
@@ -362,12 +303,11 @@ fn steps_on(l: &[u8], e: Encoding, path: &mut [usize], from: usize, out: &mut [u
     requires { Opens l.now e × (spec.is_cursor_of (entry_in l.now) (cursor_with spec.at path.old) ≡ true) × (from ≤ length out.old) }
     ensures { walked_of result path.new out.new ≡ goes_on (length out.old) (entry_in l.now) from out.old (cursor_with spec.at path.old) }
 {
-    let t = bits::bytes_for(e.width);
+    let size = bits::bytes_for(e.width);
     let mut at = from;
-    while t <= out.len() - at {
-        let w = step_right(l, e, State::At, path, &mut out[at..]);
-        let answer = w.answer;
-        let n = bytes_of(answer);
+    while size <= out.len() - at {
+        let walked = step_right(l, e, State::At, path, &mut out[at..]);
+        let n = bytes_of(walked.answer);
         if n == 0 {
             return Walked {
                 answer: StepAnswer::Wrote(at),
@@ -387,11 +327,10 @@ pub fn walk_right(l: &[u8], e: Encoding, s: State, path: &mut [usize], out: &mut
     requires { Opens l.now e × (spec.is_cursor_of (entry_in l.now) (cursor_with (state_of s) path.old) ≡ true) }
     ensures { walked_of result path.new out.new ≡ advances (entry_in l.now) (cursor_with (state_of s) path.old) out.old }
 {
-    let w = step_right(l, e, s, path, out);
-    let answer = w.answer;
-    let n = bytes_of(answer);
+    let walked = step_right(l, e, s, path, out);
+    let n = bytes_of(walked.answer);
     if n == 0 {
-        return w;
+        return walked;
     }
     steps_on(l, e, path, n, out)
 }
@@ -423,14 +362,10 @@ pub fn advanced(l: &[u8], t: &[u8], e: Encoding, c: Cursor, out: &mut [u8]) -> S
     ensures { stepped_of result out.new ≡ spec.advance (entry_in l.now) (cursor_of c) out.old }
 {
     let mut path = numbers_of(c);
-    let from = c.state;
-    let walked = step_any(l, t, e, from, &mut path, out);
-    let answer = walked.answer;
-    let to = walked.state;
-    let offsets = offsets_of(path);
+    let walked = step_any(l, t, e, c.state, &mut path, out);
     Stepped {
-        cursor: Cursor::of(to, offsets),
-        answer,
+        cursor: Cursor::of(walked.state, offsets_of(path)),
+        answer: walked.answer,
     }
 }
 
@@ -439,7 +374,7 @@ pub fn advance(l: &[u8], t: &[u8], e: Encoding, cursor: &mut Cursor, out: &mut [
     requires { Opens l.now e × Tallies t.now }
     ensures { advanced_of result out.new cursor.new ≡ spec.advance (entry_in l.now) (cursor_of cursor.old) out.old }
 {
-    let s = advanced(l, t, e, *cursor, out);
-    *cursor = s.cursor;
-    s.answer
+    let stepped = advanced(l, t, e, *cursor, out);
+    *cursor = stepped.cursor;
+    stepped.answer
 }

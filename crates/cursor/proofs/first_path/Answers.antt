@@ -4,7 +4,7 @@ use native.Mathlib.Omega.{arith}
 use Prim.Native.Nat.{◌/◌, ◌≤◌, ◌<◌}
 use Rattle.loes.specs.Entry.{edge_count}
 use Rattle.loes.specs.Read.{entry_in}
-use Rattle.encoding.proofs.Opened.{opens_valid, opens_room}
+use Rattle.encoding.proofs.Opened.{opens_valid}
 use Rattle.cursor.proofs.Outset.{first_start, first_room, first_next, first_end}
 use Rattle.cursor.proofs.first_path.Goals as goal
 
@@ -14,8 +14,8 @@ loop-d-init c =
     let long : (entry_in c.args.l.now).width ≤ length c.args.path.now = omega (arith, c.requires.2, c.requires.0.width) in
     first_start _ (opens_valid _ _ c.requires.0) some _ long
 
-pub first_edge-x-requires : goal.first_edge-x-requires
-first_edge-x-requires c =
+pub first_edge-requires : goal.first_edge-requires
+first_edge-requires c =
     let some : 0 < edge_count (entry_in c.args.l.now) = omega (arith, c.requires.1, c.requires.0.bits) in
     let long : (entry_in c.args.l.now).width ≤ length c.args.path.now = omega (arith, c.requires.2, c.requires.0.width) in
     let z = (first_room _ (opens_valid _ _ c.requires.0) some _ long _ _ _ c.loop-d.invariant (omega (arith, c.loop-d-test.true, c.requires.0.width))).0 in (c.requires.0, omega (arith, z, c.requires.0.bits))
@@ -24,7 +24,7 @@ pub loop-d-preserved : goal.loop-d-preserved
 loop-d-preserved c =
     let some : 0 < edge_count (entry_in c.args.l.now) = omega (arith, c.requires.1, c.requires.0.bits) in
     let long : (entry_in c.args.l.now).width ≤ length c.args.path.now = omega (arith, c.requires.2, c.requires.0.width) in
-    first_next _ (opens_valid _ _ c.requires.0) some _ long _ _ _ c.loop-d.invariant (omega (arith, c.loop-d-test.true, c.requires.0.width)) _ _ c.first_edge-x.ensures (ap (λ x. x / 2) c.level_end-end.ensures)
+    first_next _ (opens_valid _ _ c.requires.0) some _ long _ _ _ c.loop-d.invariant (omega (arith, c.loop-d-test.true, c.requires.0.width)) _ _ c.first_edge.ensures (ap (λ x. x / 2) c.level_end-record.ensures)
 
 pub returns : goal.returns
 returns c =

@@ -1,10 +1,6 @@
-use Prim.Native.Nat.{◌-◌}
 use Rattle.loes.specs.Read.{entry_in}
 use Rattle.cursor.proofs.Outset.{FirstTo}
 use Rattle.cursor.proofs.first_path.Given as goal
 
 abbrev pub invariant-loop-d : goal.invariant-loop-d
-invariant-loop-d l = FirstTo (entry_in l.l) l.initial.path l.path l.r l.d
-
-abbrev pub decreases-loop-d : goal.decreases-loop-d
-decreases-loop-d l = l.m - l.d
+invariant-loop-d l = FirstTo (entry_in l.l) l.initial.path l.path l.record l.d

@@ -1,5 +1,6 @@
-use native.Mathlib.Omega.{arith}
+use mathlib.Core.Logic.{inl, inr}
 use Rattle.loes.specs.Cursor.{offsets_right}
+use native.Mathlib.Omega.{arith}
 use Rattle.encoding.proofs.Opened.{opens_room}
 use Rattle.cursor.proofs.Stepping.{right_in, right_not}
 use Rattle.cursor.proofs.is_cursor.Goals as goal
@@ -15,8 +16,7 @@ returns-in-At c = right_in _ _ _ _ _ c.if-path-ne-MAX_WIDTH.false c.in-At.is c.a
 
 pub returns-in-Before : goal.returns-in-Before
 unfolding offsets_right
-returns-in-Before c = right_in _ _ _ _ _ c.if-path-ne-MAX_WIDTH.false c.in-Before.is c.zeros_from.ensures
-
-pub returns-in-After : goal.returns-in-After
-unfolding offsets_right
-returns-in-After c = right_in _ _ _ _ _ c.if-path-ne-MAX_WIDTH.false c.in-After.is c.zeros_from-in-After.ensures
+returns-in-Before c = elim c.in-Before.is [
+  | inl s ↦ right_in _ _ _ _ _ c.if-path-ne-MAX_WIDTH.false s c.are_zeros.ensures
+  | inr s ↦ right_in _ _ _ _ _ c.if-path-ne-MAX_WIDTH.false s c.are_zeros.ensures
+]

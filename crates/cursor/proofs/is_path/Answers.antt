@@ -1,41 +1,53 @@
-use mathlib.Core.Bool.{not, true}
-use lib.ListN.{get_or}
-use Rattle.loes.specs.Entry.{edges_of, edge_count}
-use Rattle.loes.proofs.Tests.{not_false}
-use Rattle.cursor.specs.Moves.{leads_on}
+use Rattle.cursor.proofs.Checks.{check_first, check_below, check_next, check_fail, check_all}
+use Rattle.loes.proofs.Lists.{rank_le}
+use mathlib.Core.Bool.{Bool, true}
+use mathlib.Core.List.{List}
 use mathlib.Core.Path.{◌≡◌, sym, ap, ◌∙◌}
 use native.Mathlib.Omega.{arith}
-use Prim.Native.Nat.{◌+◌}
+use Prim.Native.Nat.{ℕ, ◌+◌, ◌<◌, ◌≤◌}
+use lib.ListN.{length, take, get_or, length-take}
+use Rattle.std.proofs.lemmas.List.{get_or-take}
+use Rattle.loes.specs.Entry.{edges_of, edge_count}
 use Rattle.loes.specs.Read.{entry_in}
-use Rattle.loes.proofs.Lists.{rank_le}
 use Rattle.encoding.proofs.Opened.{opens_valid, opens_room}
-use Rattle.cursor.proofs.Checks.{was_false, check_first, check_below, check_next, check_fail, check_all}
+use Rattle.cursor.specs.Moves.{leads_on}
+use Rattle.cursor.proofs.Checks.{check_first, check_below, check_next, check_fail, check_all}
 use Rattle.cursor.proofs.is_path.Goals as goal
 
-pub loop-d-init : goal.loop-d-init
-loop-d-init c = (omega arith, check_first _ _)
+-- a place in the front of a path is one of the path's, and has its offset
+front_at : (os : List ℕ) (m i : ℕ) → m ≤ length os → i < length (take m os) → (i < m) × (get_or (take m os) i 0 ≡ get_or os i 0)
+front_at os m i h x = let y : i < m = omega (arith, length-take m os) in (y, get_or-take m os i 0 y)
 
-pub returns-then-not-on : goal.returns-then-not-on
-returns-then-not-on c = check_fail _ _ (omega (arith, c.requires.2, c.requires.0.width)) _ _ c.loop-d.invariant.1 (omega (arith, c.loop-d-test.true, c.requires.0.width)) (sym c.leads_on-on.ensures ∙ was_false _ (ap not c.if-not-on.true))
+-- there an offset that leads on is an edge's
+on_below : (e : List Bool) (r o : ℕ) (b : Bool) → b ≡ leads_on e r o → b ≡ true → o < length e
+on_below e r o b q y = check_below e r o (sym q ∙ y)
 
-pub ones_before-r-requires : goal.ones_before-r-requires
+pub loop-offset-init : goal.loop-offset-init
+loop-offset-init c = check_first _ _
+
+pub returns-then-not-leads_on : goal.returns-then-not-leads_on
+returns-then-not-leads_on c =
+    let z = front_at c.args.path.now c.args.e.width c.loop-offset.offset-index c.requires.2 c.loop-offset-test.true in
+    check_fail _ _ (omega (arith, c.requires.2, c.requires.0.width)) _ _ c.loop-offset.invariant (omega (arith, z.0, c.requires.0.width))
+    (rw z.1 at (sym c.leads_on.ensures ∙ c.if-not-leads_on.true))
+
+pub ones_before-record-requires : goal.ones_before-record-requires
 unfolding edge_count
-ones_before-r-requires c =
-    let on : leads_on (edges_of (entry_in c.args.l.now)) c.loop-d.r (get_or c.args.path.now c.loop-d.d 0) ≡ true = sym c.leads_on-on.ensures ∙ not_false _ (ap not c.if-not-on.false) in
-    let z = check_below _ _ _ on in
+ones_before-record-requires c =
+    let z = on_below _ _ _ _ c.leads_on.ensures c.if-not-leads_on.false in
     (c.requires.0, c.requires.1, omega (arith, z, c.requires.0.bits))
 
-pub overflow_add-r : goal.overflow_add-r
+pub overflow_add-record : goal.overflow_add-record
 unfolding edge_count
-overflow_add-r c =
-    let on : leads_on (edges_of (entry_in c.args.l.now)) c.loop-d.r (get_or c.args.path.now c.loop-d.d 0) ≡ true = sym c.leads_on-on.ensures ∙ not_false _ (ap not c.if-not-on.false) in
-    let z = check_below _ _ _ on in
-    omega (arith, z, c.ones_before-r.ensures, (rank_le (edges_of (entry_in c.args.l.now)) (get_or c.args.path.now c.loop-d.d 0)).0, c.requires.0.bits, (opens_room _ _ c.requires.0).few)
+overflow_add-record c =
+    let z = on_below _ _ _ _ c.leads_on.ensures c.if-not-leads_on.false in
+    omega (arith, z, c.ones_before-record.ensures, (rank_le (edges_of (entry_in c.args.l.now)) (get_or (take c.args.e.width c.args.path.now) c.loop-offset.offset-index 0)).0, c.requires.0.bits, (opens_room _ _ c.requires.0).few)
 
-pub loop-d-preserved : goal.loop-d-preserved
-loop-d-preserved c =
-    let on : leads_on (edges_of (entry_in c.args.l.now)) c.loop-d.r (get_or c.args.path.now c.loop-d.d 0) ≡ true = sym c.leads_on-on.ensures ∙ not_false _ (ap not c.if-not-on.false) in
-    (omega (arith, c.loop-d-test.true), check_next _ _ _ _ _ c.loop-d.invariant.1 on (ap (λ x. x + 1) c.ones_before-r.ensures))
+pub loop-offset-preserved : goal.loop-offset-preserved
+loop-offset-preserved c =
+    let z = front_at c.args.path.now c.args.e.width c.loop-offset.offset-index c.requires.2 c.loop-offset-test.true in
+    check_next _ _ _ _ _ c.loop-offset.invariant (rw z.1 at (sym c.leads_on.ensures ∙ c.if-not-leads_on.false)) (rw (← z.1) (ap (λ x. x + 1) c.ones_before-record.ensures))
 
 pub returns : goal.returns
-returns c = check_all _ _ (omega (arith, c.requires.2, c.requires.0.width)) _ _ c.loop-d.invariant.1 (opens_valid _ _ c.requires.0) (omega (arith, c.loop-d-test.false, c.loop-d.invariant.0, c.requires.0.width))
+returns c = check_all _ _ (omega (arith, c.requires.2, c.requires.0.width)) _ _ c.loop-offset.invariant (opens_valid _ _ c.requires.0)
+    (omega (arith, length-take c.args.e.width c.args.path.now, c.requires.2, c.loop-offset-test.false, c.loop-offset.auto.offset-index-end, c.requires.0.width))

@@ -1,11 +1,7 @@
-use Prim.Native.Nat.{◌-◌}
 use Rattle.loes.specs.Entry.{edges_of}
 use Rattle.loes.specs.Read.{entry_in}
 use Rattle.cursor.proofs.Checks.{MovedTo}
 use Rattle.cursor.proofs.move_on.Given as goal
 
 abbrev pub invariant-loop-d : goal.invariant-loop-d
-invariant-loop-d l = MovedTo (edges_of (entry_in l.l)) l.m l.t l.initial.path l.path l.d
-
-abbrev pub decreases-loop-d : goal.decreases-loop-d
-decreases-loop-d l = l.m - l.d
+invariant-loop-d l = MovedTo (edges_of (entry_in l.l)) l.e.width l.t l.initial.path l.path l.d

@@ -1,5 +1,3 @@
-use native.Mathlib.Omega.{arith}
-use Rattle.encoding.proofs.Opened.{opens_room}
 use Rattle.cursor.proofs.Checks.{behind_at, behind_below}
 use Rattle.cursor.proofs.next_offset.Goals as goal
 

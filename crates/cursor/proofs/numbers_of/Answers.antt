@@ -8,16 +8,16 @@ use Rattle.cursor.proofs.numbers_of.Goals as goal
 pub loop-d-init : goal.loop-d-init
 loop-d-init c =
     let size : length c.args.c.offsets ≡ 256 = search rules in
-    (omega arith, copied_none _ _ (sym (numbers_long _ ∙ size)))
+    copied_none _ _ (sym (numbers_long _ ∙ size))
 
 pub loop-d-preserved : goal.loop-d-preserved
 loop-d-preserved c =
     let size : length c.args.c.offsets ≡ 256 = search rules in
     let l = c.loop-d in
     let n = numbers_long c.args.c.offsets in
-    (omega arith, copied_more _ _ _ _ l.invariant.1 (omega (arith, size, n)) (sym (numbers_at c.args.c.offsets l.d _ (omega (arith, size)))))
+    copied_more _ _ _ _ l.invariant (omega (arith, size, n)) (sym (numbers_at c.args.c.offsets l.d _ (omega (arith, size))))
 
 pub returns : goal.returns
 returns c =
     let size : length c.args.c.offsets ≡ 256 = search rules in
-    let n = numbers_long c.args.c.offsets in copied_all _ _ _ c.loop-d.invariant.1 (omega (arith, size, n))
+    let n = numbers_long c.args.c.offsets in copied_all _ _ _ c.loop-d.invariant (omega (arith, size, n))

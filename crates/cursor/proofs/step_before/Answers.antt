@@ -32,14 +32,14 @@ pub first_path-requires : goal.first_path-requires
 first_path-requires c = let z = ap length c.requires.1 ∙ length-replicate {A = ℕ} 256 0 in
     (c.requires.0, positive _ c.if-e-eq0.false, omega (arith, z, (opens_room _ _ c.requires.0).narrow))
 
-pub write_key-n-requires : goal.write_key-n-requires
+pub write_key-requires : goal.write_key-requires
 unfolding key_bytes started
-write_key-n-requires c = let v = opens_valid _ _ c.requires.0 in
+write_key-requires c = let v = opens_valid _ _ c.requires.0 in
     let z = path_long _ v 0 (first_some _ v (some_edges _ _ c.requires.0 c.if-e-eq0.false)) c.args.path.now in
     ((opens_room _ _ c.requires.0).narrow, rw c.first_path.ensures (omega (arith, z, c.requires.0.width)), omega (arith, c.bytes_for.ensures.0, c.if-out-bytes_for.false))
 
 pub returns : goal.returns
 unfolding key_bytes started
 returns c = let b = c.bytes_for.ensures.0 in
-    let w = c.write_key-n.ensures in
+    let w = c.write_key.ensures in
     before_first _ (opens_valid _ _ c.requires.0) _ c.requires.1 (some_edges _ _ c.requires.0 c.if-e-eq0.false) _ _ _ _ _ c.first_path.ensures c.requires.0.width (omega (arith, b, c.if-out-bytes_for.false)) w.0 w.1
