@@ -44,12 +44,9 @@ fn put_text(text: &mut [u8], at: usize, s: &[u8]) -> usize
     requires { at + length s.now ≤ length text.old }
     ensures { Puts at s.now text.old result text.new }
 {
-    let mut i: usize = 0;
-    while i < s.len() {
-        text[at + i] = s[i];
-        i += 1;
-    }
-    at + i
+    let end = at + s.len();
+    text[at..end].copy_from_slice(s);
+    end
 }
 
 fn put_number(text: &mut [u8], at: usize, n: usize) -> usize
@@ -83,10 +80,8 @@ pub fn put_key(text: &mut [u8], at: usize, key: &[u8]) -> usize
     ensures { Puts at (hex key.now) text.old result text.new }
 {
     let mut end = at;
-    let mut i: usize = 0;
-    while i < key.len() {
-        end = put_byte(text, end, key[i]);
-        i += 1;
+    for byte in key {
+        end = put_byte(text, end, *byte);
     }
     end
 }
