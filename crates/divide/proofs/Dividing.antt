@@ -23,7 +23,7 @@ use Rattle.merge.specs.Union.{flag_of, Merged}
 use Rattle.merge.proofs.Merging.{tree_levels, over_levels, edges_levels}
 use Rattle.restrict.specs.Restriction.{Marks}
 use Rattle.restrict.proofs.Subsets.{part_edges}
-use Rattle.divide.specs.Division.{MarksFit}
+use Rattle.divide.specs.Division.{MarksFit, DivideRoom}
 use Rattle.divide.proofs.Apart.{fits_less}
 
 -- ---- The flags of the parts
@@ -80,6 +80,10 @@ module _ {m x y : ℕ} {a c : Bytes} (ha : Holds m x a) (hc : Holds m y c) {q p 
   -- room for the union's marks
   pub union_fits : {z u : Bytes} → MarksFit ((x + y) / 2) z → length u ≡ length z → MarksFit (b / 2) u
   union_fits w e = fits_less w e (omega (arith, merged_most))
+
+  -- in each of the three rooms
+  pub all_fit : {k : Bytes} {s t u s' t' u' : Bytes} → DivideRoom x y k s t u → length s' ≡ length s → length t' ≡ length t → length u' ≡ length u → MarksFit (b / 2) s' × MarksFit (b / 2) t' × MarksFit (b / 2) u'
+  all_fit d i j k = (union_fits d.both i, union_fits d.only_first j, union_fits d.only_second k)
 
 -- ---- The edges of the parts
 module _ {e f : Entry} {q p z : Bytes} {b n : ℕ} (v : Merged e f q p b n) where

@@ -1,101 +1,108 @@
 use mathlib.Core.Path.{◌≡◌}
-use Prim.Native.Nat.{ℕ, suc, ◌+◌, ◌-◌, ◌*◌, ◌/◌, ◌≤◌, ◌<◌}
+use Prim.Native.Nat.{suc, ◌+◌, ◌-◌, ◌*◌, ◌/◌, ◌≤◌}
 use native.Mathlib.Omega.{arith}
-use lib.ListN.{length, get_or}
-use Rattle.loes.specs.Bytes.{Bytes}
-use Rattle.records.specs.Records.{record_at, records_at}
-use Rattle.records.specs.Numbers.{records_of}
-use Rattle.restrict.specs.Restriction.{child_count, RecordMarked, SingleRoom, MarkRoom}
+use lib.ListN.{length}
+use Rattle.restrict.specs.Restriction.{SingleRoom}
 use Rattle.restrict.proofs.Marking.{mark_le}
-use Rattle.divide.specs.Division.{ByteMarked, MarksFit}
-use Rattle.divide.proofs.Apart.{Apart, fits_less, apart_none, apart_done, record_entries, apart_record, apart_byte, apart_singles}
+use Rattle.divide.proofs.Apart.{fit, apart_none, apart_done, record_entries, apart_record_before, apart_byte_before, apart_singles}
 use Rattle.divide.proofs.mark.Goals as goal
 
--- room for the marks of no more records
--- KEEP
-fit : (l : goal.At-loop-i invariant-loop decreases-loop) (k : _) → k ≤ (start l).args.r.0 → MarksFit k l.loop-i.x × MarksFit k l.loop-i.y × MarksFit k l.loop-i.z
-fit l k h =
-    let m = (start l).requires.1.0 in
-    (fits_less m.0 l.loop-i.invariant.0.size h, fits_less m.1 l.loop-i.invariant.1.size h, fits_less m.2 l.loop-i.invariant.2.size h)
-
-pub overflow_add-c : goal.overflow_add-c
-overflow_add-c c = record { fits = omega (arith, c.requires.0) }
-
 pub loop-i-init : goal.loop-i-init
-loop-i-init c = let a = c.requires.0.2 in (apart_none a, apart_none a, apart_none a)
+loop-i-init c = let a = c.requires.n_bound.2 in (apart_none a, apart_none a, apart_none a)
 
 pub has_singles-requires : goal.has_singles-requires
-has_singles-requires c = (c.loop-i.invariant.0.marking.low, omega (arith, c.requires.0), c.requires.0.1)
+has_singles-requires c = (c.loop-i.invariant.0.marking.low, omega (arith, c.requires.n_bound), c.requires.n_bound.1)
 
 pub overflow_sub-i : goal.overflow_sub-i
-overflow_sub-i c = 
-    let single-room : SingleRoom c.args.q.now c.args.r.0 c.loop-i.i c.loop-i.c = c.has_singles.ensures c.if-has_singles.true in
-    single-room.block
+overflow_sub-i c = (c.has_singles.ensures c.if-has_singles.true).block
 
 pub overflow_sub-c : goal.overflow_sub-c
-overflow_sub-c c = 
-    let single-room : SingleRoom c.args.q.now c.args.r.0 c.loop-i.i c.loop-i.c = c.has_singles.ensures c.if-has_singles.true in
-    omega (arith, single-room.behind)
+overflow_sub-c c = let m : SingleRoom c.args.q.now c.args.r.0 c.loop-i.i c.loop-i.c = c.has_singles.ensures c.if-has_singles.true in
+    omega (arith, m.behind)
 
-pub mark_singles_for_three-requires : goal.mark_singles_for_three-requires
-mark_singles_for_three-requires c = 
-    let single-room : SingleRoom c.args.q.now c.args.r.0 c.loop-i.i c.loop-i.c = c.has_singles.ensures c.if-has_singles.true in
-    let m = single-room in
-    ((omega (arith, m.whole, m.block), omega (arith, m.queue, m.behind, m.block), omega (arith, m.behind)), fit c _ (omega (arith, m.records, m.behind)))
+pub mark_singles_for_three-requires-clause-i_value : goal.mark_singles_for_three-requires-clause-i_value
+mark_singles_for_three-requires-clause-i_value c = let m : SingleRoom c.args.q.now c.args.r.0 c.loop-i.i c.loop-i.c = c.has_singles.ensures c.if-has_singles.true in
+    (omega (arith, m.whole, m.block), omega (arith, m.queue, m.behind, m.block), omega (arith, m.behind))
+
+pub mark_singles_for_three-requires-clause-marks_fit : goal.mark_singles_for_three-requires-clause-marks_fit
+mark_singles_for_three-requires-clause-marks_fit c = let m : SingleRoom c.args.q.now c.args.r.0 c.loop-i.i c.loop-i.c = c.has_singles.ensures c.if-has_singles.true in
+    fit c.requires.marks_fit c.loop-i.invariant (omega (arith, m.records, m.behind))
 
 pub loop-i-smaller-then-has_singles : goal.loop-i-smaller-then-has_singles
-loop-i-smaller-then-has_singles c = 
-    let single-room : SingleRoom c.args.q.now c.args.r.0 c.loop-i.i c.loop-i.c = c.has_singles.ensures c.if-has_singles.true in
-    omega (arith, single-room.block)
+loop-i-smaller-then-has_singles c = let m : SingleRoom c.args.q.now c.args.r.0 c.loop-i.i c.loop-i.c = c.has_singles.ensures c.if-has_singles.true in
+    omega (arith, m.block)
 
 pub loop-i-preserved-then-has_singles : goal.loop-i-preserved-then-has_singles
-loop-i-preserved-then-has_singles c = 
-    let single-room : SingleRoom c.args.q.now c.args.r.0 c.loop-i.i c.loop-i.c = c.has_singles.ensures c.if-has_singles.true in
-    let a = c.requires.0.2 in
+loop-i-preserved-then-has_singles c = let m : SingleRoom c.args.q.now c.args.r.0 c.loop-i.i c.loop-i.c = c.has_singles.ensures c.if-has_singles.true in
+    let a = c.requires.n_bound.2 in
     let v = c.loop-i.invariant in
     let e = c.mark_singles_for_three.ensures in
-    let m = single-room in
-    (apart_singles a v.0 m e.0, apart_singles a v.1 m e.1.0, apart_singles a v.2 m e.1.1)
+    (apart_singles a v.0 m e.singles_marked, apart_singles a v.1 m e.singles_marked_2, apart_singles a v.2 m e.singles_marked_3)
 
-pub whole_edges-k-requires : goal.whole_edges-k-requires
-whole_edges-k-requires c = ((c.loop-i-test.true, omega (arith, c.loop-i-test.true, c.loop-i.invariant.0.marking.low, c.requires.0)), c.requires.1.1)
+pub whole_edges-k-requires-clause-i_nonzero : goal.whole_edges-k-requires-clause-i_nonzero
+whole_edges-k-requires-clause-i_nonzero c = (c.loop-i-test.true, omega (arith, c.loop-i-test.true, c.loop-i.invariant.0.marking.low, c.requires.n_bound))
 
 pub overflow_sub-i-then-k-gt0 : goal.overflow_sub-i-then-k-gt0
-overflow_sub-i-then-k-gt0 c = omega (arith, last c)
+overflow_sub-i-then-k-gt0 c = let m = c.whole_edges-k.ensures c.if-k-gt0.true in
+    let last : c.loop-i.i ≡ 4 * ((c.loop-i.i - 4) / 4) + 4 = omega (arith, m.1.whole, c.loop-i-test.true) in
+    omega (arith, last)
 
 pub overflow_sub-c-then-k-gt0 : goal.overflow_sub-c-then-k-gt0
-overflow_sub-c-then-k-gt0 c = (byte-room c).less
+overflow_sub-c-then-k-gt0 c = (c.whole_edges-k.ensures c.if-k-gt0.true).1.less
 
-pub mark_byte_for_three-requires : goal.mark_byte_for_three-requires
-mark_byte_for_three-requires c = let s = start (l c) in
-    let m = byte-room c in
-    let v = (l c).loop-i.invariant.0.marking in
-    let most = mark_le s.requires.0.2 v in
-    (s.requires.1.1 (c.whole_edges-k.ensures c.if-k-gt0.true).0, ((byte-place c, m.queue, omega (arith, most, s.requires.0), omega (arith, last c, v.low)), (fit (l c) _ (omega arith), λ h. omega (arith, m.same h, m.less, edge-count c))))
+pub mark_byte_for_three-requires-clause-spreads : goal.mark_byte_for_three-requires-clause-spreads
+mark_byte_for_three-requires-clause-spreads c = c.requires.spreads (c.whole_edges-k.ensures c.if-k-gt0.true).0
+
+pub mark_byte_for_three-requires-clause-j_in_bounds : goal.mark_byte_for_three-requires-clause-j_in_bounds
+mark_byte_for_three-requires-clause-j_in_bounds c = let m = c.whole_edges-k.ensures c.if-k-gt0.true in
+    let last : c.loop-i.i ≡ 4 * ((c.loop-i.i - 4) / 4) + 4 = omega (arith, m.1.whole, c.loop-i-test.true) in
+    let v = c.loop-i.invariant.0.marking in
+    (omega (arith, last, v.low, c.requires.n_bound), m.1.queue, omega (arith, mark_le c.requires.n_bound.2 v, c.requires.n_bound), omega (arith, last, v.low))
+
+pub mark_byte_for_three-requires-clause-marks_fit : goal.mark_byte_for_three-requires-clause-marks_fit
+mark_byte_for_three-requires-clause-marks_fit c = fit c.requires.marks_fit c.loop-i.invariant (omega arith)
+
+pub mark_byte_for_three-requires-clause-j_bound : goal.mark_byte_for_three-requires-clause-j_bound
+mark_byte_for_three-requires-clause-j_bound c = let m = c.whole_edges-k.ensures c.if-k-gt0.true in
+    let last : c.loop-i.i ≡ 4 * ((c.loop-i.i - 4) / 4) + 4 = omega (arith, m.1.whole, c.loop-i-test.true) in
+    let z : (c.loop-i.i - 1) / 4 ≡ (c.loop-i.i - 4) / 4 = omega (arith, last) in
+    λ h. omega (arith, m.1.same h, m.1.less, rw z at m.2)
 
 pub loop-i-smaller-then-k-gt0 : goal.loop-i-smaller-then-k-gt0
-loop-i-smaller-then-k-gt0 c = omega (arith, last c)
+loop-i-smaller-then-k-gt0 c = let m = c.whole_edges-k.ensures c.if-k-gt0.true in
+    let last : c.loop-i.i ≡ 4 * ((c.loop-i.i - 4) / 4) + 4 = omega (arith, m.1.whole, c.loop-i-test.true) in
+    omega (arith, last)
 
 pub loop-i-preserved-then-k-gt0 : goal.loop-i-preserved-then-k-gt0
-loop-i-preserved-then-k-gt0 c = let v = (l c).loop-i.invariant in
+loop-i-preserved-then-k-gt0 c = let m = c.whole_edges-k.ensures c.if-k-gt0.true in
+    let a = c.requires.n_bound.2 in
+    let v = c.loop-i.invariant in
     let e = c.mark_byte_for_three.ensures in
-    (byte_more c v.0 e.0, byte_more c v.1 e.1.0, byte_more c v.2 e.1.1)
+    let room : c.args.r.0 ≤ 4 * length c.args.q.now = omega (arith, c.requires.n_bound) in
+    (apart_byte_before a v.0 room c.loop-i-test.true m.1 m.2 e.byte_marked, apart_byte_before a v.1 room c.loop-i-test.true m.1 m.2 e.byte_marked_2, apart_byte_before a v.2 room c.loop-i-test.true m.1 m.2 e.byte_marked_3)
 
 pub overflow_sub-i-else-k-gt0 : goal.overflow_sub-i-else-k-gt0
 overflow_sub-i-else-k-gt0 c = omega (arith, c.loop-i-test.true)
 
-pub mark_record_for_three-d-requires : goal.mark_record_for_three-d-requires
-mark_record_for_three-d-requires c = let v = c.loop-i.invariant.0 in
+pub mark_record_for_three-d-requires-clause-j_lt_r : goal.mark_record_for_three-d-requires-clause-j_lt_r
+mark_record_for_three-d-requires-clause-j_lt_r c = let v = c.loop-i.invariant.0 in
+    let a = c.requires.n_bound.2 in
     let z : c.loop-i.i ≡ suc (c.loop-i.i - 1) = omega (arith, c.loop-i-test.true) in
-    ((omega (arith, z, v.marking.low), omega (arith, mark_le c.requires.0.2 v.marking, c.requires.0), omega (arith, c.requires.0), c.requires.0.1, (record_entries c.requires.0.2 v (c.loop-i.i - 1) z).0), fit c _ (omega arith))
+    (omega (arith, z, v.marking.low), omega (arith, mark_le a v.marking, c.requires.n_bound), omega (arith, c.requires.n_bound), c.requires.n_bound.1, (record_entries a v (c.loop-i.i - 1) z).0)
+
+pub mark_record_for_three-d-requires-clause-marks_fit : goal.mark_record_for_three-d-requires-clause-marks_fit
+mark_record_for_three-d-requires-clause-marks_fit c = fit c.requires.marks_fit c.loop-i.invariant (omega arith)
 
 pub loop-i-smaller : goal.loop-i-smaller
 loop-i-smaller c = omega (arith, c.loop-i-test.true)
 
 pub loop-i-preserved : goal.loop-i-preserved
-loop-i-preserved c = let v = (k c).loop-i.invariant in
+loop-i-preserved c = let a = c.requires.n_bound.2 in
+    let v = c.loop-i.invariant in
     let e = c.mark_record_for_three-d.ensures in
-    (record-more c v.0 e.1.0, record-more c v.1 e.1.1.0, record-more c v.2 e.1.1.1)
+    let z : c.loop-i.i ≡ suc (c.loop-i.i - 1) = omega (arith, c.loop-i-test.true) in
+    let room : c.args.r.0 ≤ 4 * length c.args.q.now = omega (arith, c.requires.n_bound) in
+    (apart_record_before a v.0 z room e.result_value e.record_marked, apart_record_before a v.1 z room e.result_value e.record_marked_2, apart_record_before a v.2 z room e.result_value e.record_marked_3)
 
 pub shape_of-x : goal.shape_of-x
 shape_of-x c = c.loop-i.invariant.0.size
@@ -109,4 +116,4 @@ shape_of-z c = c.loop-i.invariant.2.size
 pub returns : goal.returns
 returns c = let z : c.loop-i.i ≡ 0 = omega (arith, c.loop-i-test.false) in
     let v = rw z at c.loop-i.invariant in
-    ((apart_done v.0, apart_done v.1, apart_done v.2), (v.0.size, v.1.size, v.2.size))
+    record { marks = (apart_done v.0, apart_done v.1, apart_done v.2); x_len_unchanged = (v.0.size, v.1.size, v.2.size) }
