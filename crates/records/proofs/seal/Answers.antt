@@ -1,7 +1,7 @@
-use Prim.Native.Nat.{ℕ, ◌-◌, ◌*◌, ◌%◌, ◌≤◌, ◌<◌}
-use lib.ListN.{length, get_or}
+use Prim.Native.Nat.{ℕ, ◌*◌, ◌%◌, ◌≤◌, ◌<◌}
+use lib.ListN.{length}
 use Rattle.loes.specs.Bytes.{started}
-use Rattle.records.proofs.Sealing.{Cleared, cleared_none, cleared_more, sealed}
+use Rattle.records.proofs.Sealing.{cleared_none, cleared_more, sealed}
 use native.Mathlib.Omega.{arith}
 use Rattle.records.proofs.seal.Goals as goal
 
