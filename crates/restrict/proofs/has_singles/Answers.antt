@@ -1,24 +1,11 @@
 use mathlib.Core.Path.{◌≡◌, ap, ◌∙◌}
 use Prim.Native.Nat.{ℕ, ◌+◌, ◌-◌, ◌*◌, ◌/◌}
-use mathlib.Core.Bool.{false≢true}
 use native.Mathlib.Omega.{arith}
 use lib.ListN.{get_or}
 use Rattle.records.specs.Records.{empty_record, record_at, records_at}
 use Rattle.records.specs.Numbers.{records_of}
 use Rattle.restrict.proofs.Singles.{record_in}
 use Rattle.restrict.proofs.has_singles.Goals as goal
-
-pub returns-then-i-gt0 : goal.returns-then-i-gt0
-returns-then-i-gt0 c = λ h. absurd (false≢true h)
-
-pub returns-then-i-lt-SINGLES : goal.returns-then-i-lt-SINGLES
-returns-then-i-lt-SINGLES c = λ h. absurd (false≢true h)
-
-pub returns-then-r-c : goal.returns-then-r-c
-returns-then-r-c c = λ h. absurd (false≢true h)
-
-pub returns-then-c-i : goal.returns-then-c-i
-returns-then-c-i c = λ h. absurd (false≢true h)
 
 pub returns-then-c-q : goal.returns-then-c-q
 returns-then-c-q c = λ h. let q = c.args.q.now in
@@ -36,6 +23,3 @@ returns-then-c-q c = λ h. let q = c.args.q.now in
           ap (λ l. get_or l t empty_record) (c.block.ensures.0 ∙ ap (λ o. records_at q o 16) y) ∙ record_in q (c.args.i.0 - 16) 16 t (omega arith) ∙ ap (record_at q) z in
           rw e at (c.no_double.ensures h t (omega arith));
     }
-
-pub returns-else-c-q : goal.returns-else-c-q
-returns-else-c-q c = λ h. absurd (false≢true h)
