@@ -173,7 +173,3 @@ pub apart_record_before : {w : ℕ} {q : Bytes} {r n : ℕ} → Entries q r n �
 apart_record_before a {i} {d} v e room h t =
     let b = record_entries a v (i - 1) e in
     apart_record a v (i - 1) d e (omega (arith, h, b.0)) (omega (arith, h, b.1)) room t
-
--- room for the marks of no more records, in all three
-pub fit : {q : Bytes} {r n i c k : ℕ} {x y z x' y' z' : Bytes} → MarksFit r x × MarksFit r y × MarksFit r z → Apart 3 q r n i c x x' × Apart 1 q r n i c y y' × Apart 2 q r n i c z z' → k ≤ r → MarksFit k x' × MarksFit k y' × MarksFit k z'
-fit m v h = (fits_less m.0 v.0.size h, fits_less m.1 v.1.size h, fits_less m.2 v.2.size h)
