@@ -161,11 +161,23 @@ fn has_block(i: RecordIndex, to: RecordIndex) -> bool
     i.0 % 4 == 0
 }
 
-// A level of the union: its flags are in the queue from `from` on to the end.
-fn merge_level(
+// A level of the union, record by record: its flags are in the queue from `from` on to the end.
+fn merge_records(a: &[u8], b: &[u8], q: &mut [u8], from: RecordIndex, start: Positions) -> Positions
+    requires { LevelRoom a.now b.now q.old from.0 start.a.0 start.b.0 start.tail.0 (flags_from q.old from.0 (start.tail.0 - from.0)) }
+    ensures { LevelMerged a.now b.now q.old from.0 start.a.0 start.b.0 start.tail.0 (start.tail.0 - from.0) q.new result.a.0 result.b.0 result.tail.0 }
+{
+    let mut at = start;
+    for i in from.0..start.tail.0 {
+        at = merge_record(a, b, q, RecordIndex(i), at);
+    }
+    at
+}
+
+// The same, by blocks where it can be.
+fn merge_blocks(
     a: &[u8],
     b: &[u8],
-    tables: Option<Tables<'_>>,
+    tables: Tables<'_>,
     q: &mut [u8],
     from: RecordIndex,
     start: Positions,
@@ -177,18 +189,33 @@ fn merge_level(
     let mut at = start;
     let mut i = from.0;
     while i < end.0 {
-        match tables {
-            Some(t) if has_block(RecordIndex(i), end) => {
-                at = merge_block(a, b, t, q, i / 4, at);
-                i += BLOCK;
-            }
-            _ => {
-                at = merge_record(a, b, q, RecordIndex(i), at);
-                i += 1;
-            }
+        if has_block(RecordIndex(i), end) {
+            at = merge_block(a, b, tables, q, i / 4, at);
+            i += BLOCK;
+        } else {
+            at = merge_record(a, b, q, RecordIndex(i), at);
+            i += 1;
         }
     }
     at
+}
+
+// The same, by blocks if tables are lent.
+fn merge_level(
+    a: &[u8],
+    b: &[u8],
+    tables: Option<Tables<'_>>,
+    q: &mut [u8],
+    from: RecordIndex,
+    start: Positions,
+) -> Positions
+    requires { LevelRoom a.now b.now q.old from.0 start.a.0 start.b.0 start.tail.0 (flags_from q.old from.0 (start.tail.0 - from.0)) }
+    ensures { LevelMerged a.now b.now q.old from.0 start.a.0 start.b.0 start.tail.0 (start.tail.0 - from.0) q.new result.a.0 result.b.0 result.tail.0 }
+{
+    match tables {
+        Some(t) => merge_blocks(a, b, t, q, from, start),
+        None => merge_records(a, b, q, from, start),
+    }
 }
 
 // 1 if a set of so many edges has a root, else 0.

@@ -19,6 +19,6 @@ impl EdgedTable<'_> {
     pub fn edged_at(self, x: u8) -> Run
         ensures { (records_of (result.bits / 2) result.records ≡ those has_edge (records_of 4 x)) × Short 4 result.records result.bits }
     {
-        crate::run_of(self.entries[crate::wide(x)] as usize)
+        crate::run_of(self.entries[x as usize] as usize)
     }
 }

@@ -36,7 +36,7 @@ impl Tables<'_> {
         requires { (f < 16) × (x < 256) }
         ensures { (records_of 4 result ≡ spread (bits_of 4 f) (records_of 4 x)) × (result < 256) }
     {
-        crate::wide(self.spreads[256 * f + x])
+        self.spreads[256 * f + x] as usize
     }
 
     // Of the flags in a byte: which say that the first, the second has it, and how many.
@@ -46,7 +46,7 @@ impl Tables<'_> {
         ensures first_value { (result.first ≡ first_count (map flag_of_record (records_of 4 x))) × (result.first ≤ 4) }
         ensures second_value { (result.second ≡ second_count (map flag_of_record (records_of 4 x))) × (result.second ≤ 4) }
     {
-        let h = self.parts[crate::wide(x)] as usize;
+        let h = self.parts[x as usize] as usize;
         Parts {
             firsts: h / 256 % 16,
             seconds: h / 16 % 16,

@@ -68,10 +68,8 @@ pub fn seal(out: &mut [u8], k: RecordIndex)
     requires { (k.0 ≤ 4 * length out.old) × (k.0 ≤ 4 * max_edges) }
     ensures { Sealed k.0 out.old out.new }
 {
-    let mut i = k.0;
-    while i % 4 > 0 {
+    for i in k.0..k.0.next_multiple_of(4) {
         put_record(out, RecordIndex(i), 0);
-        i += 1;
     }
 }
 
@@ -84,18 +82,12 @@ pub fn wide(x: u8) -> usize
     x as usize
 }
 
-// What a byte weighs that has three behind it.
-const THREE_BYTES: usize = bits::TWO_BYTES * bits::BYTE;
-
 // The sixteen records of the four bytes from byte j on. Just these are read: a wider load would wait for bytes that were written a moment ago.
 pub fn block(l: &[u8], j: usize) -> usize
     requires { j + 3 < length l.now }
     ensures { (records_of 16 result ≡ records_at l.now (4 * j) 16) × (result < 2 ^ 32) }
 {
-    wide(l[j]) * THREE_BYTES
-        + wide(l[j + 1]) * bits::TWO_BYTES
-        + wide(l[j + 2]) * bits::BYTE
-        + wide(l[j + 3])
+    u32::from_be_bytes([l[j], l[j + 1], l[j + 2], l[j + 3]]) as usize
 }
 
 // Eight records from record i on, in the upper bits of a word.
@@ -152,15 +144,8 @@ pub fn append(out: &mut [u8], k: RecordIndex, r: Run)
     let at = k.0 / 4;
     let n = r.bits;
     let p = 2 * (k.0 % 4);
-    let old = wide(out[at]);
+    let old = out[at] as usize;
     let w = ((old >> (8 - p)) << n) + r.records;
     let v = (w * 2) << (63 - p - n);
-    out[at] = (v >> 56) as u8;
-    out[at + 1] = ((v >> 48) % 256) as u8;
-    out[at + 2] = ((v >> 40) % 256) as u8;
-    out[at + 3] = ((v >> 32) % 256) as u8;
-    out[at + 4] = ((v >> 24) % 256) as u8;
-    out[at + 5] = ((v >> 16) % 256) as u8;
-    out[at + 6] = ((v >> 8) % 256) as u8;
-    out[at + 7] = (v % 256) as u8;
+    out[at..at + 8].copy_from_slice(&v.to_be_bytes());
 }

@@ -1,4 +1,3 @@
-use mathlib.Core.Path.{◌≡◌}
 use Prim.Native.Nat.{◌<◌}
 use native.Mathlib.Omega.{arith}
 use Rattle.records.proofs.Lookups.{firsts_told, seconds_told, first_told, second_told}
@@ -6,10 +5,8 @@ use Rattle.records.proofs.lent.Tables.parts_at.Goals as goal
 
 pub returns : goal.returns
 returns c =
-    let e : c.wide.result ≡ c.args.x = c.wide.ensures.0 in
-    let h : c.args.x < 256 = omega (arith, c.wide.ensures) in
+    let h : c.args.x < 256 = omega arith in
     let p = c.args.self.parted in
-    rw e
     record {
       firsts_value = (firsts_told p c.args.x h, omega arith);
       seconds_value = (seconds_told p c.args.x h, omega arith);

@@ -1,6 +1,6 @@
 use Prim.Native.Nat.{◌-◌, ◌≤◌}
 use Rattle.merge.specs.Union.{LevelMerged}
-use Rattle.merge.proofs.merge_level.Given as goal
+use Rattle.merge.proofs.merge_blocks.Given as goal
 
 -- the flags before place i are merged
 abbrev pub invariant-loop-i : goal.invariant-loop-i
