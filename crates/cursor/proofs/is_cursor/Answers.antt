@@ -6,10 +6,10 @@ use Rattle.cursor.proofs.Stepping.{right_in, right_not}
 use Rattle.cursor.proofs.is_cursor.Goals as goal
 
 pub returns-then-path-ne-MAX_WIDTH : goal.returns-then-path-ne-MAX_WIDTH
-returns-then-path-ne-MAX_WIDTH c = right_not _ c.args.s c.args.path.now c.if-path-ne-MAX_WIDTH.true
+returns-then-path-ne-MAX_WIDTH c = right_not _ c.args.state c.args.path.now c.if-path-ne-MAX_WIDTH.true
 
 pub at_member-requires : goal.at_member-requires
-at_member-requires c = (c.requires.0, c.requires.1, omega (arith, c.if-path-ne-MAX_WIDTH.false, (opens_room _ _ c.requires.0).narrow))
+at_member-requires c = (omega (arith, c.if-path-ne-MAX_WIDTH.false, (opens_room _ _ c.args.o.opens).narrow))
 
 pub returns-in-At : goal.returns-in-At
 returns-in-At c = right_in _ _ _ _ _ c.if-path-ne-MAX_WIDTH.false c.in-At.is c.at_member.ensures

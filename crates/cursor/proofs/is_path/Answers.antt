@@ -27,27 +27,27 @@ loop-offset-init c = check_first _ _
 
 pub returns-then-not-leads_on : goal.returns-then-not-leads_on
 returns-then-not-leads_on c =
-    let z = front_at c.args.path.now c.args.e.width c.loop-offset.offset-index c.requires.2 c.loop-offset-test.true in
-    check_fail _ _ (omega (arith, c.requires.2, c.requires.0.width)) _ _ c.loop-offset.invariant (omega (arith, z.0, c.requires.0.width))
+    let z = front_at c.args.path.now c.args.o.encoding.width c.loop-offset.offset-index c.requires c.loop-offset-test.true in
+    check_fail _ _ (omega (arith, c.requires, c.args.o.opens.width)) _ _ c.loop-offset.invariant (omega (arith, z.0, c.args.o.opens.width))
     (rw z.1 at (sym c.leads_on.ensures ∙ c.if-not-leads_on.true))
 
 pub ones_before-record-requires : goal.ones_before-record-requires
 unfolding edge_count
 ones_before-record-requires c =
     let z = on_below _ _ _ _ c.leads_on.ensures c.if-not-leads_on.false in
-    (c.requires.0, c.requires.1, omega (arith, z, c.requires.0.bits))
+    (omega (arith, z, c.args.o.opens.bits))
 
 pub overflow_add-record : goal.overflow_add-record
 unfolding edge_count
 overflow_add-record c =
     let z = on_below _ _ _ _ c.leads_on.ensures c.if-not-leads_on.false in
-    omega (arith, z, c.ones_before-record.ensures, (rank_le (edges_of (entry_in c.args.l.now)) (get_or (take c.args.e.width c.args.path.now) c.loop-offset.offset-index 0)).0, c.requires.0.bits, (opens_room _ _ c.requires.0).few)
+    omega (arith, z, c.ones_before-record.ensures, (rank_le (edges_of (entry_in c.args.o.bytes.now)) (get_or (take c.args.o.encoding.width c.args.path.now) c.loop-offset.offset-index 0)).0, c.args.o.opens.bits, (opens_room _ _ c.args.o.opens).few)
 
 pub loop-offset-preserved : goal.loop-offset-preserved
 loop-offset-preserved c =
-    let z = front_at c.args.path.now c.args.e.width c.loop-offset.offset-index c.requires.2 c.loop-offset-test.true in
+    let z = front_at c.args.path.now c.args.o.encoding.width c.loop-offset.offset-index c.requires c.loop-offset-test.true in
     check_next _ _ _ _ _ c.loop-offset.invariant (rw z.1 at (sym c.leads_on.ensures ∙ c.if-not-leads_on.false)) (rw (← z.1) (ap (λ x. x + 1) c.ones_before-record.ensures))
 
 pub returns : goal.returns
-returns c = check_all _ _ (omega (arith, c.requires.2, c.requires.0.width)) _ _ c.loop-offset.invariant (opens_valid _ _ c.requires.0)
-    (omega (arith, length-take c.args.e.width c.args.path.now, c.requires.2, c.loop-offset-test.false, c.loop-offset.auto.offset-index-end, c.requires.0.width))
+returns c = check_all _ _ (omega (arith, c.requires, c.args.o.opens.width)) _ _ c.loop-offset.invariant (opens_valid _ _ c.args.o.opens)
+    (omega (arith, length-take c.args.o.encoding.width c.args.path.now, c.requires, c.loop-offset-test.false, c.loop-offset.auto.offset-index-end, c.args.o.opens.width))

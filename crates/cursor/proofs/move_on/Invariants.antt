@@ -4,4 +4,4 @@ use Rattle.cursor.proofs.Checks.{MovedTo}
 use Rattle.cursor.proofs.move_on.Given as goal
 
 abbrev pub invariant-loop-d : goal.invariant-loop-d
-invariant-loop-d l = MovedTo (edges_of (entry_in l.l)) l.e.width l.t l.initial.path l.path l.d
+invariant-loop-d l = MovedTo (edges_of (entry_in l.o.bytes.now)) l.o.encoding.width l.level l.initial.path l.path l.d

@@ -6,7 +6,7 @@ use Rattle.cursor.proofs.step_right.Goals as goal
 
 pub step_before-requires : goal.step_before-requires
 unfolding padded
-step_before-requires c = (c.requires.0, right_before (entry_in c.args.l.now) _ (state_right (entry_in c.args.l.now) _ _ _ c.in-Before.is c.requires.1))
+step_before-requires c = (right_before (entry_in c.args.o.bytes.now) _ (state_right (entry_in c.args.o.bytes.now) _ _ _ c.in-Before.is c.requires))
 
 pub returns-in-After : goal.returns-in-After
-returns-in-After c = let t = c.in-After.is in step_in _ _ _ _ _ _ t (after_stays _ _ _ (state_right _ _ _ _ t c.requires.1))
+returns-in-After c = let t = c.in-After.is in step_in _ _ _ _ _ _ t (after_stays _ _ _ (state_right _ _ _ _ t c.requires))

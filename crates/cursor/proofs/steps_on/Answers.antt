@@ -9,46 +9,38 @@ use Rattle.cursor.proofs.Stepping.{positive}
 use Rattle.cursor.proofs.Filling.{WalkSoFar, walk_start, walk_full, walk_more, walk_last}
 use borrow.Rule.Slice.PartMut.{put_mid}
 use Rattle.cursor.proofs.steps_on.Goals as goal
+use Rattle.cursor.proofs.steps_on.Goals.{Else-n-eq0}
+
+-- the walk goes on behind a key that was written
+on : (c : Else-n-eq0)
+    → WalkSoFar (entry_in c.args.o.bytes.now) c.args.from c.args.path.now c.args.out.now c.step_right-walked.new.path
+    (put_mid c.loop-out.at (length c.loop-out.out - c.loop-out.at) c.loop-out.out c.step_right-walked.new.out) (c.loop-out.at + c.unwrap_or-n.result)
+unfolding key_bytes started
+on c =
+    let room : key_bytes (entry_in c.args.o.bytes.now).width ≤ length c.loop-out.out - c.loop-out.at = omega (arith, c.bytes_for-size.ensures.0, c.loop-out-test.true, c.args.o.opens.width) in
+    walk_more _ _ _ _ _ _ _ c.loop-out.invariant (opens_valid _ _ c.args.o.opens) room c.step_right-walked.result _ _ c.step_right-walked.ensures _ c.unwrap_or-n.ensures c.if-n-eq0.false
 
 pub bytes_for-size-requires : goal.bytes_for-size-requires
-bytes_for-size-requires c = omega (arith, (opens_room _ _ c.requires.0).narrow)
+bytes_for-size-requires c = omega (arith, (opens_room _ _ c.args.o.opens).narrow)
 
 pub loop-out-init : goal.loop-out-init
-loop-out-init c = walk_start _ _ _ _ c.requires.1 c.requires.2
+loop-out-init c = walk_start _ _ _ _ c.requires.0 c.requires.1
 
 pub returns-then-n-eq0 : goal.returns-then-n-eq0
 unfolding key_bytes started
 returns-then-n-eq0 c =
-    let room : key_bytes (entry_in c.args.l.now).width ≤ length c.loop-out.out - c.loop-out.at = omega (arith, c.bytes_for-size.ensures.0, c.loop-out-test.true, c.requires.0.width) in
-    walk_last _ _ _ _ _ _ _ c.loop-out.invariant (opens_valid _ _ c.requires.0) room c.step_right-walked.result _ _ c.step_right-walked.ensures _ c.bytes_of-n.ensures c.if-n-eq0.true
+    let room : key_bytes (entry_in c.args.o.bytes.now).width ≤ length c.loop-out.out - c.loop-out.at = omega (arith, c.bytes_for-size.ensures.0, c.loop-out-test.true, c.args.o.opens.width) in
+    walk_last _ _ _ _ _ _ _ c.loop-out.invariant (opens_valid _ _ c.args.o.opens) room c.step_right-walked.result _ _ c.step_right-walked.ensures _ c.unwrap_or-n.ensures c.if-n-eq0.true
 
 pub overflow_add-at : goal.overflow_add-at
-unfolding key_bytes started
-overflow_add-at c =
-    let room : key_bytes (entry_in c.args.l.now).width ≤ length c.loop-out.out - c.loop-out.at = omega (arith, c.bytes_for-size.ensures.0, c.loop-out-test.true, c.requires.0.width) in
-    let on : WalkSoFar (entry_in c.args.l.now) c.args.from c.args.path.now c.args.out.now c.step_right-walked.new.path
-    (put_mid c.loop-out.at (length c.loop-out.out - c.loop-out.at) c.loop-out.out c.step_right-walked.new.out) (c.loop-out.at + c.bytes_of-n.result) =
-    walk_more _ _ _ _ _ _ _ c.loop-out.invariant (opens_valid _ _ c.requires.0) room c.step_right-walked.result _ _ c.step_right-walked.ensures _ c.bytes_of-n.ensures c.if-n-eq0.false in
-    omega (arith, on.inside, on.size)
+overflow_add-at c = let w = on (goal.at.overflow_add-at c).Else-n-eq0 in omega (arith, w.inside, w.size)
 
 pub loop-out-smaller : goal.loop-out-smaller
-unfolding key_bytes started
-loop-out-smaller c =
-    let room : key_bytes (entry_in c.args.l.now).width ≤ length c.loop-out.out - c.loop-out.at = omega (arith, c.bytes_for-size.ensures.0, c.loop-out-test.true, c.requires.0.width) in
-    let on : WalkSoFar (entry_in c.args.l.now) c.args.from c.args.path.now c.args.out.now c.step_right-walked.new.path
-    (put_mid c.loop-out.at (length c.loop-out.out - c.loop-out.at) c.loop-out.out c.step_right-walked.new.out) (c.loop-out.at + c.bytes_of-n.result) =
-    walk_more _ _ _ _ _ _ _ c.loop-out.invariant (opens_valid _ _ c.requires.0) room c.step_right-walked.result _ _ c.step_right-walked.ensures _ c.bytes_of-n.ensures c.if-n-eq0.false in
-    omega (arith, on.inside, on.size, positive _ c.if-n-eq0.false)
+loop-out-smaller c = let w = on (goal.at.loop-out-smaller c).Else-n-eq0 in omega (arith, w.inside, w.size, positive _ c.if-n-eq0.false)
 
 pub loop-out-preserved : goal.loop-out-preserved
-unfolding key_bytes started
-loop-out-preserved c =
-    let room : key_bytes (entry_in c.args.l.now).width ≤ length c.loop-out.out - c.loop-out.at = omega (arith, c.bytes_for-size.ensures.0, c.loop-out-test.true, c.requires.0.width) in
-    let on : WalkSoFar (entry_in c.args.l.now) c.args.from c.args.path.now c.args.out.now c.step_right-walked.new.path
-    (put_mid c.loop-out.at (length c.loop-out.out - c.loop-out.at) c.loop-out.out c.step_right-walked.new.out) (c.loop-out.at + c.bytes_of-n.result) =
-    walk_more _ _ _ _ _ _ _ c.loop-out.invariant (opens_valid _ _ c.requires.0) room c.step_right-walked.result _ _ c.step_right-walked.ensures _ c.bytes_of-n.ensures c.if-n-eq0.false in
-    on
+loop-out-preserved c = on (goal.at.loop-out-preserved c).Else-n-eq0
 
 pub returns : goal.returns
 unfolding key_bytes started
-returns c = walk_full _ _ _ _ _ _ _ c.loop-out.invariant (omega (arith, c.bytes_for-size.ensures.0, c.loop-out-test.false, c.requires.0.width))
+returns c = walk_full _ _ _ _ _ _ _ c.loop-out.invariant (omega (arith, c.bytes_for-size.ensures.0, c.loop-out-test.false, c.args.o.opens.width))

@@ -8,4 +8,4 @@ use Rattle.cursor.specs.Moves.{turns}
 use Rattle.cursor.proofs.turn_level.Given as goal
 
 abbrev pub invariant-loop-d : goal.invariant-loop-d
-invariant-loop-d l = (j : ℕ) → l.d ≤ j → j < l.e.width → turns (edges_of (entry_in l.l)) (get_or l.path j 0) ≡ false
+invariant-loop-d l = (j : ℕ) → l.d ≤ j → j < l.o.encoding.width → turns (edges_of (entry_in l.o.bytes.now)) (get_or l.path j 0) ≡ false
