@@ -1,0 +1,16 @@
+use Rattle.loes.specs.Calls.{contains_call}
+use Rattle.encoding.specs.Opened.{Opens}
+use Rattle.query.proofs.Calls.{call_refused, call_opened}
+use Rattle.query.proofs.contains.Goals as goal
+
+pub contains_in-requires : goal.contains_in-requires
+contains_in-requires c = (rw c.in-Opened.is at c.check-checked.ensures, c.tallies-t.ensures)
+
+pub returns-in-Refused : goal.returns-in-Refused
+unfolding contains_call
+returns-in-Refused c = call_refused _ _ _ _ (rw c.in-Refused.is at c.check-checked.ensures)
+
+pub returns-in-Opened : goal.returns-in-Opened
+unfolding contains_call
+returns-in-Opened c = let o : Opens c.args.l.now c.in-Opened.e = rw c.in-Opened.is at c.check-checked.ensures in
+    call_opened _ _ _ _ _ o.reads c.contains_in.ensures
