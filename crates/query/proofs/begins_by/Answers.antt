@@ -1,7 +1,7 @@
 use native.Mathlib.Omega.{arith}
 use mathlib.Core.Path.{ap, ◌∙◌}
 use lib.Dec.{leb}
-use Rattle.loes.proofs.Tests.{lt_yes, lt_no}
+use Rattle.loes.proofs.Tests.{lt_yes}
 use Rattle.encoding.proofs.Opened.{opens_room}
 use Rattle.query.proofs.Index.{sub_block_at}
 use Rattle.query.proofs.begins_by.Goals as goal
@@ -15,6 +15,3 @@ number2-n-requires c = (sub_block_at _ _ c.requires.0 c.args.j c.if-j-e.true).0
 pub returns-then-j-e : goal.returns-then-j-e
 returns-then-j-e c = let z = (sub_block_at _ _ c.requires.0 c.args.j c.if-j-e.true).1 in
     rw (lt_yes _ _ c.if-j-e.true) (ap (λ n. leb n c.args.k) (c.number2-n.ensures.0 ∙ z))
-
-pub returns : goal.returns
-returns c = rw (lt_no _ _ c.if-j-e.false)

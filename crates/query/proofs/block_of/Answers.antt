@@ -9,17 +9,8 @@ use Rattle.query.proofs.block_of.Goals as goal
 pub loop-j-init : goal.loop-j-init
 loop-j-init c = (c.requires.1, omega (arith, first_block (edges_of (entry_in c.args.l.now))))
 
-pub overflow_add-j : goal.overflow_add-j
-overflow_add-j c = omega (arith, (opens_room _ _ c.requires.0).few, c.loop-j.invariant.0)
-
 pub overflow_mul-j : goal.overflow_mul-j
 overflow_mul-j c = omega (arith, (opens_room _ _ c.requires.0).few, c.loop-j.invariant.0)
-
-pub overflow_add-j-in-loop-j : goal.overflow_add-j-in-loop-j
-overflow_add-j-in-loop-j c = omega (arith, (opens_room _ _ c.requires.0).few, c.loop-j.invariant.0)
-
-pub overflow_mul-j-in-loop-j : goal.overflow_mul-j-in-loop-j
-overflow_mul-j-in-loop-j c = omega (arith, (opens_room _ _ c.requires.0).few, c.loop-j.invariant.0)
 
 pub overflow_add-e : goal.overflow_add-e
 overflow_add-e c = omega (arith, (block_at _ _ c.requires.0 (c.loop-j.j + 1) c.loop-j-test.true).0, (opens_room _ _ c.requires.0).bytes)
@@ -32,11 +23,5 @@ returns-then-k-n c = let i = c.loop-j in
     let z = (block_at _ _ c.requires.0 (i.j + 1) c.loop-j-test.true).1 in
     (i.invariant.0, i.invariant.1, λ h. omega (arith, z, c.number8-n.ensures, c.if-k-n.true))
 
-pub overflow_add-j-in-loop-j-2 : goal.overflow_add-j-in-loop-j-2
-overflow_add-j-in-loop-j-2 c = omega (arith, (opens_room _ _ c.requires.0).few, c.loop-j.invariant.0)
-
 pub loop-j-preserved : goal.loop-j-preserved
 loop-j-preserved c = let t = c.loop-j-test.true in (t, let z = (block_at _ _ c.requires.0 (c.loop-j.j + 1) t).1 in omega (arith, z, c.number8-n.ensures, c.if-k-n.false))
-
-pub returns : goal.returns
-returns c = (c.loop-j.invariant.0, c.loop-j.invariant.1, λ h. absurd (omega (arith, h, c.loop-j-test.false)))

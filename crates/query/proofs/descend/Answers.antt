@@ -1,5 +1,5 @@
 use Prim.Native.Nat.{◌<◌}
-use mathlib.Core.Path.{◌≡◌, sym, ◌∙◌}
+use mathlib.Core.Path.{sym, ◌∙◌}
 use native.Mathlib.Omega.{arith}
 use Rattle.loes.specs.Read.{entry_in}
 use Rattle.encoding.proofs.Opened.{opens_valid}
@@ -20,14 +20,7 @@ step_down-at-requires c = let t : c.loop-d.d < (entry_in c.args.l.now).width = o
     let y = way_le _ v _ c.loop-d.invariant.1 t c.bit_at-bit.result in
     (c.requires.0, c.requires.1, omega (arith, y, b), λ f. let z = way_lt _ v _ c.loop-d.invariant.1 t c.bit_at-bit.result f in omega (arith, z, b))
 
-pub overflow_add-d : goal.overflow_add-d
-overflow_add-d c = omega (arith, (opens_valid _ _ c.requires.0).narrow, c.requires.0.width, c.requires.2)
-
 pub loop-d-preserved : goal.loop-d-preserved
 loop-d-preserved c = let w = c.requires.0.width in
     let t = c.loop-d-test.true in
     (omega (arith, t), way_next _ (opens_valid _ _ c.requires.0) _ c.loop-d.invariant.1 (omega (arith, t, w, c.requires.2)) (omega (arith, c.if-e-eq0.false, c.requires.0.bits)) _ c.bit_at-bit.ensures _ _ c.step_down-at.ensures.0 c.step_down-at.ensures.1)
-
-pub returns : goal.returns
-returns c = let z : c.loop-d.d ≡ (c).args.levels = omega (arith, c.loop-d-test.false, c.loop-d.invariant.0) in
-    rw z at c.loop-d.invariant.1

@@ -10,16 +10,6 @@ use Rattle.query.proofs.Ascent.{edge_few}
 use Rattle.query.proofs.Index.{edge_in_byte}
 use Rattle.query.proofs.edge_up.Goals as goal
 
-pub overflow_add-x : goal.overflow_add-x
-overflow_add-x c =
-    let found : let a = c.args in let r = c.find_edge-found.result in (a.e.edges + r.byte < length a.l.now) × (r.number < 8) × (8 * r.byte + place_of (get_or a.l.now (a.e.edges + r.byte) 0) r.number ≡ select (edges_of (entry_in a.l.now)) (a.r.0 - 1)) = edge_in_byte c.args.l.now c.args.e c.requires.0 (c.args.r.0 - 1) c.find_edge-found.result.byte c.find_edge-found.result.number c.requires.4 c.find_edge-found.ensures in
-    let z = found.0 in omega (arith, z, (opens_room _ _ c.requires.0).bytes)
-
-pub bounds-l-e : goal.bounds-l-e
-bounds-l-e c =
-    let found : let a = c.args in let r = c.find_edge-found.result in (a.e.edges + r.byte < length a.l.now) × (r.number < 8) × (8 * r.byte + place_of (get_or a.l.now (a.e.edges + r.byte) 0) r.number ≡ select (edges_of (entry_in a.l.now)) (a.r.0 - 1)) = edge_in_byte c.args.l.now c.args.e c.requires.0 (c.args.r.0 - 1) c.find_edge-found.result.byte c.find_edge-found.result.number c.requires.4 c.find_edge-found.ensures in
-    found.0
-
 pub overflow_mul-o : goal.overflow_mul-o
 overflow_mul-o c =
     let found : let a = c.args in let r = c.find_edge-found.result in (a.e.edges + r.byte < length a.l.now) × (r.number < 8) × (8 * r.byte + place_of (get_or a.l.now (a.e.edges + r.byte) 0) r.number ≡ select (edges_of (entry_in a.l.now)) (a.r.0 - 1)) = edge_in_byte c.args.l.now c.args.e c.requires.0 (c.args.r.0 - 1) c.find_edge-found.result.byte c.find_edge-found.result.number c.requires.4 c.find_edge-found.ensures in

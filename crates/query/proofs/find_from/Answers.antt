@@ -16,9 +16,6 @@ loop-c-init c =
     let first : c.args.from + 8 < length c.args.edges.now = in_words c.args.edges.now c.args.from c.args.left c.requires.2 in
     (first, c.word_ones-c.ensures, refl)
 
-pub overflow_add-i : goal.overflow_add-i
-overflow_add-i c = omega (arith, c.requires.1)
-
 pub word_ones-c-requires-in-loop-c : goal.word_ones-c-requires-in-loop-c
 word_ones-c-requires-in-loop-c c =
     let stays : numbered c.args.edges.now (c.loop-c.i + 8) (c.loop-c.k - c.loop-c.c) ≡ numbered c.args.edges.now c.args.from c.args.left = next_word c.args.edges.now c.loop-c.i c.loop-c.k c.loop-c.c c.loop-c.invariant.1 c.loop-c-test.true ∙ c.loop-c.invariant.2 in
@@ -36,6 +33,3 @@ loop-c-preserved c =
 pub find_in_bytes-requires : goal.find_in_bytes-requires
 find_in_bytes-requires c = let d = c.args.edges.now in
     (c.requires.0, c.requires.1, omega (arith, c.loop-c.invariant.2, c.requires.2, ones_mono d (8 * (length d - 8)) (8 * length d) (omega arith)))
-
-pub returns : goal.returns
-returns c = rw c.loop-c.invariant.2 at c.find_in_bytes.ensures

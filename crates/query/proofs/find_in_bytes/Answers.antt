@@ -9,14 +9,8 @@ use Rattle.query.proofs.find_in_bytes.Goals as goal
 pub bounds-edges-i : goal.bounds-edges-i
 bounds-edges-i c = in_bytes c.args.edges.now c.args.from c.args.left c.requires.2
 
-pub ones_in-c-requires : goal.ones_in-c-requires
-ones_in-c-requires c = c.requires.0
-
 pub loop-c-init : goal.loop-c-init
 loop-c-init c = (in_bytes c.args.edges.now c.args.from c.args.left c.requires.2, c.ones_in-c.ensures, refl)
-
-pub overflow_add-i : goal.overflow_add-i
-overflow_add-i c = omega (arith, c.requires.1)
 
 pub bounds-edges-i-in-loop-c : goal.bounds-edges-i-in-loop-c
 bounds-edges-i-in-loop-c c =
@@ -25,15 +19,9 @@ bounds-edges-i-in-loop-c c =
     in_bytes c.args.edges.now (c.loop-c.i + 1) (c.loop-c.k - c.loop-c.c) (omega (arith, z, c.requires.2)) in
     further
 
-pub ones_in-c-requires-in-loop-c : goal.ones_in-c-requires-in-loop-c
-ones_in-c-requires-in-loop-c c = c.requires.0
-
 pub loop-c-preserved : goal.loop-c-preserved
 loop-c-preserved c =
     let stays : numbered c.args.edges.now (c.loop-c.i + 1) (c.loop-c.k - c.loop-c.c) ≡ numbered c.args.edges.now c.args.from c.args.left = next_byte c.args.edges.now c.loop-c.i c.loop-c.k c.loop-c.c c.loop-c.invariant.1 c.loop-c-test.true ∙ c.loop-c.invariant.2 in
     let further : c.loop-c.i + 1 < length c.args.edges.now = let z = stays in
     in_bytes c.args.edges.now (c.loop-c.i + 1) (c.loop-c.k - c.loop-c.c) (omega (arith, z, c.requires.2)) in
     (further, c.ones_in-c-in-loop-c.ensures, stays)
-
-pub returns : goal.returns
-returns c = let v = c.loop-c.invariant in (v.0, omega (arith, c.loop-c-test.false, v.1), v.2)

@@ -3,9 +3,6 @@ use Rattle.encoding.specs.Opened.{Opens}
 use Rattle.query.proofs.Calls.{call_refused, call_opened}
 use Rattle.query.proofs.key_at.Goals as goal
 
-pub key_at_in-requires : goal.key_at_in-requires
-key_at_in-requires c = (rw c.in-Opened.is at c.check-checked.ensures, c.tallies-t.ensures, c.places-places.ensures)
-
 pub returns-in-Refused : goal.returns-in-Refused
 unfolding key_at_call
 returns-in-Refused c = call_refused _ _ _ _ (rw c.in-Refused.is at c.check-checked.ensures)

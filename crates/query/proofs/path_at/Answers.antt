@@ -21,9 +21,6 @@ loop-d-init c =
     let long : (entry_in c.args.l.now).width ≤ length c.args.offsets.now = omega (arith, c.requires.4, c.requires.0.width) in
     ((up_start _ valid _ few _ long _ _ c.requires.0.width c.requires.0.bits).1, level_last _ _ _ c.requires.0.width c.requires.0.bits)
 
-pub level_start-start-requires : goal.level_start-start-requires
-level_start-start-requires c = (c.requires.0, omega (arith, c.loop-d.invariant.0.low, c.requires.0.width))
-
 pub overflow_sub-k : goal.overflow_sub-k
 overflow_sub-k c =
     let valid : Valid (entry_in c.args.l.now) = opens_valid _ _ c.requires.0 in
@@ -40,16 +37,6 @@ edge_up-o-requires c =
     let y = (turn_level _ valid _ few _ long _ _ _ c.loop-d.invariant.0 c.loop-d-test.true).1 in
     (c.requires.0, c.requires.1, c.requires.2, z.0, z.1, rw (c.level_start-start.ensures, c.loop-d.invariant.1) y)
 
-pub offset_bounds-offsets-d : goal.offset_bounds-offsets-d
-offset_bounds-offsets-d c =
-    let valid : Valid (entry_in c.args.l.now) = opens_valid _ _ c.requires.0 in
-    omega (arith, c.loop-d.invariant.0.low, valid.narrow)
-
-pub bounds-offsets-d : goal.bounds-offsets-d
-bounds-offsets-d c =
-    let long : (entry_in c.args.l.now).width ≤ length c.args.offsets.now = omega (arith, c.requires.4, c.requires.0.width) in
-    omega (arith, c.loop-d.invariant.0.low, c.loop-d.invariant.0.size, long, c.loop-d-test.true)
-
 pub guess_from-next-requires : goal.guess_from-next-requires
 guess_from-next-requires c =
     let valid : Valid (entry_in c.args.l.now) = opens_valid _ _ c.requires.0 in
@@ -61,9 +48,6 @@ loop-d-preserved c =
     let few : c.args.i.0 < count (entry_in c.args.l.now) = omega (arith, c.requires.3, c.requires.0.count) in
     let long : (entry_in c.args.l.now).width ≤ length c.args.offsets.now = omega (arith, c.requires.4, c.requires.0.width) in
     (turn_next _ valid _ few _ long _ _ _ c.loop-d.invariant.0 c.loop-d-test.true _ c.edge_up-o.ensures, c.level_start-start.ensures)
-
-pub shape_of-offsets : goal.shape_of-offsets
-shape_of-offsets c = c.loop-d.invariant.0.size
 
 pub returns : goal.returns
 returns c =

@@ -1,9 +1,4 @@
-use mathlib.Core.Path.{ap, ◌∙◌}
 use native.Mathlib.Omega.{arith}
-use Prim.Native.Nat.{◌+◌}
-use mathlib.Core.Bool.{◌&&◌, false}
-use lib.ListN.{get_or}
-use Rattle.loes.specs.Edges.{rank}
 use Rattle.loes.specs.Entry.{edges_of}
 use Rattle.loes.specs.Read.{entry_in}
 use Rattle.loes.proofs.Lists.{rank_le}
@@ -15,14 +10,5 @@ pub edge_from-o-requires : goal.edge_from-o-requires
 unfolding edge_from
 edge_from-o-requires c = omega (arith, (opens_room _ _ c.requires.0).few, c.requires.2)
 
-pub edge_set-f-requires : goal.edge_set-f-requires
-edge_set-f-requires c = (c.requires.0, λ q. let y = c.requires.3 q in omega (arith, c.edge_from-o.ensures, y))
-
 pub overflow_add-result : goal.overflow_add-result
 overflow_add-result c = omega (arith, c.ones_before-n.ensures, (rank_le (edges_of (entry_in c.args.l.now)) c.edge_from-o.result.0).0, c.edge_from-o.ensures, c.requires.2, (opens_room _ _ c.requires.0).few)
-
-pub returns : goal.returns
-returns c = let z = c.edge_from-o.ensures in (
-  ap (λ x. x + 1) (c.ones_before-n.ensures ∙ ap (rank (edges_of (entry_in c.args.l.now))) z),
-  c.edge_set-f.ensures ∙ ap (λ x. c.args.at.found && get_or (edges_of (entry_in c.args.l.now)) x false) z,
-)

@@ -19,9 +19,6 @@ bounds-out-j c =
     omega (arith, z, b, c.loop-j.invariant.1.0, c.loop-j-test.true) in
     room
 
-pub loop-j-smaller : goal.loop-j-smaller
-loop-j-smaller c = omega (arith, c.loop-j-test.true)
-
 pub loop-j-preserved : goal.loop-j-preserved
 unfolding key_bytes started
 loop-j-preserved c =
@@ -29,9 +26,6 @@ loop-j-preserved c =
     let z : started 8 c.args.m ≤ length c.args.out.now = c.requires.2 in
     omega (arith, z, b, c.loop-j.invariant.1.0, c.loop-j-test.true) in
     (omega (arith, c.loop-j-test.true), (length-set c.loop-j.out c.loop-j.j c.key_byte.result ∙ c.loop-j.invariant.1.0, written _ _ _ _ _ (let z = room in omega (arith, z, c.loop-j.invariant.1.0)) c.loop-j.invariant.1.1 c.key_byte.ensures))
-
-pub shape_of-out : goal.shape_of-out
-shape_of-out c = c.loop-j.invariant.1.0
 
 pub returns : goal.returns
 unfolding key_bytes
