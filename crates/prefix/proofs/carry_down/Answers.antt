@@ -9,9 +9,6 @@ use Rattle.prefix.specs.Cuts.{carried}
 use Rattle.prefix.proofs.Cuts.{cut_le, cut_next}
 use Rattle.prefix.proofs.carry_down.Goals as goal
 
-pub loop-i-init : goal.loop-i-init
-loop-i-init c = (c.requires.3, c.requires.4, refl)
-
 pub overflow_mul-n : goal.overflow_mul-n
 overflow_mul-n c =
     let inside : 2 * c.loop-i.n ≤ c.args.e.bits = let o = c.requires.0 in
@@ -29,9 +26,6 @@ overflow_add-n c =
     let inside : 2 * c.loop-i.n ≤ c.args.e.bits = let o = c.requires.0 in
     omega (arith, cut_le _ c.loop-i.invariant.1 (omega (arith, c.loop-i-test.true, o.width)), o.bits) in
     omega (arith, c.ones_before-n.ensures, (rank_le (edges_of (entry_in c.args.l.now)) (2 * c.loop-i.n)).0, inside, (opens_room _ _ c.requires.0).few)
-
-pub overflow_add-i : goal.overflow_add-i
-overflow_add-i c = omega (arith, c.loop-i-test.true, (opens_room _ _ c.requires.0).narrow)
 
 pub loop-i-preserved : goal.loop-i-preserved
 unfolding carried

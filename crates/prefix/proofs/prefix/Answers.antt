@@ -3,9 +3,6 @@ use Rattle.encoding.specs.Opened.{Opens}
 use Rattle.query.proofs.Calls.{call_refused, call_opened}
 use Rattle.prefix.proofs.prefix.Goals as goal
 
-pub prefix_in-requires : goal.prefix_in-requires
-prefix_in-requires c = (rw c.in-Opened.is at c.check-checked.ensures, c.tallies-t.ensures)
-
 pub returns-in-Refused : goal.returns-in-Refused
 unfolding prefix_call
 returns-in-Refused c = call_refused _ _ _ _ (rw c.in-Refused.is at c.check-checked.ensures)
