@@ -3,7 +3,7 @@
 
 ghost use Rattle.std.specs.Prelude.{◌+◌, ◌-◌, ◌*◌, ◌/◌, ◌<◌, ◌≤◌, ◌≡◌, true, false, ◌&&◌, not, ◌||◌, [], length, get_or, drop, eqb, leb, ltb};
 ghost use Rattle.loes.specs.Limits.{max_width, max_edges, max_bytes, block_bits, sub_block_bits};
-ghost use Rattle.loes.specs.Bytes.{bit, bits_in, byte_of, pack_bits, front};
+ghost use Rattle.loes.specs.Bytes.{bits_in, bits_value, byte_of, pack_bits, front};
 ghost use Rattle.loes.specs.Edges.{ones, rank};
 ghost use Rattle.loes.specs.Entry.{key_bytes, keys_of, count, edges_of};
 ghost use Rattle.loes.specs.Encode.{sub_block_ones};
@@ -62,22 +62,7 @@ fn edge_from(at: Spot, bit: bool) -> EdgeOffset
     requires { at.record.0 ≤ max_edges / 2 }
     ensures { result.0 ≡ edge_from at.record.0 at.found bit }
 {
-    let r = at.record.0;
-    if at.found && bit {
-        return EdgeOffset(2 * r + 1);
-    }
-    EdgeOffset(2 * r)
-}
-
-// The edge is set, if the descent is still on the key's way.
-fn edge_set(l: &[u8], e: Encoding, found: bool, o: EdgeOffset) -> bool
-    requires { Opens l.now e × (found ≡ true → o.0 < e.bits) }
-    ensures { result ≡ (found && get_or (edges_of (entry_in l.now)) o.0 false) }
-{
-    if found {
-        return encoding::edge_at(l, e, o);
-    }
-    false
+    EdgeOffset(2 * at.record.0 + usize::from(at.found && bit))
 }
 
 // One level down: one rank.
@@ -85,13 +70,10 @@ fn step_down(l: &[u8], t: &[u8], e: Encoding, at: Spot, bit: bool) -> Spot
     requires { Opens l.now e × Tallies t.now × (edge_from at.record.0 at.found bit ≤ e.bits) × (at.found ≡ true → edge_from at.record.0 at.found bit < e.bits) }
     ensures { DownTo (edges_of (entry_in l.now)) at bit result }
 {
-    let on = at.found;
     let o = edge_from(at, bit);
-    let n = encoding::ones_before(l, t, e, o);
-    let f = edge_set(l, e, on, o);
     Spot {
-        record: RecordIndex(n + 1),
-        found: f,
+        record: RecordIndex(encoding::ones_before(l, t, e, o) + 1),
+        found: at.found && encoding::edge_at(l, e, o),
     }
 }
 
@@ -110,11 +92,8 @@ pub fn descend(l: &[u8], t: &[u8], e: Encoding, key: &[u8], levels: usize) -> Sp
         record: RecordIndex(0),
         found: true,
     };
-    let mut d: usize = 0;
-    while d < levels {
-        let bit = bits::bit_at(key, d);
-        at = step_down(l, t, e, at, bit);
-        d += 1;
+    for d in 0..levels {
+        at = step_down(l, t, e, at, bits::bit_at(key, d));
     }
     at
 }
@@ -131,11 +110,9 @@ fn locate(l: &[u8], t: &[u8], e: Encoding, key: &[u8]) -> Position
     ensures { Located (entry_in l.now) (bits_in key.now e.width) result.below.0 result.found }
 {
     let at = descend(l, t, e, key, e.width);
-    let n = at.record.0 - e.bits / 2;
-    let f = at.found;
     Position {
-        below: MemberIndex(n),
-        found: f,
+        below: MemberIndex(at.record.0 - e.bits / 2),
+        found: at.found,
     }
 }
 
@@ -146,13 +123,7 @@ pub fn bad_key(m: usize, key: &[u8]) -> bool
     ensures { result ≡ (not (eqb (length key.now) (key_bytes m)) || unused_set m key.now) }
 {
     let t = bits::bytes_for(m);
-    if key.len() != t {
-        return true;
-    }
-    if m == 0 {
-        return false;
-    }
-    bits::unused_set(key, t, m)
+    key.len() != t || (m != 0 && bits::unused_set(key, t, m))
 }
 
 // ---- Select
@@ -176,15 +147,15 @@ fn find_in_bytes(edges: &[u8], t: &[u8], from: usize, left: usize) -> BitInByte
     requires { Tallies t.now × (length edges.now ≤ max_bytes) × (numbered edges.now from left < ones (bits_in edges.now (8 * length edges.now))) }
     ensures { InByte edges.now (numbered edges.now from left) result.byte result.number }
 {
-    let mut i = from;
-    let mut k = left;
-    let mut c = ones_in(t, edges[i]);
-    while c <= k {
-        k -= c;
-        i += 1;
-        c = ones_in(t, edges[i]);
+    let mut number = left;
+    for byte in from..edges.len() {
+        let ones = ones_in(t, edges[byte]);
+        if number < ones {
+            return BitInByte { byte, number };
+        }
+        number -= ones;
     }
-    BitInByte { byte: i, number: k }
+    unreachable!()
 }
 
 // The same, eight bytes at a time first: the set bit has eight bytes behind its own.
@@ -208,16 +179,13 @@ fn block_of(l: &[u8], e: Encoding, k: usize) -> usize
     requires { Opens l.now e × (0 < e.bits) }
     ensures { LastBlock (edges_of (entry_in l.now)) e.bits k result }
 {
-    let b = e.bits;
-    let mut j: usize = 0;
-    while Encoding::BLOCK_BITS * (j + 1) < b {
-        let n = bits::number8(l, e.blocks + Encoding::BLOCK_ENTRY * (j + 1));
-        if k < n {
+    let last = (e.bits - 1) / Encoding::BLOCK_BITS;
+    for j in 0..last {
+        if k < bits::number8(l, e.blocks + Encoding::BLOCK_ENTRY * (j + 1)) {
             return j;
         }
-        j += 1;
     }
-    j
+    last
 }
 
 // Whether sub-block j is there, with at most k set bits of its block before it.
@@ -225,11 +193,8 @@ fn begins_by(l: &[u8], e: Encoding, j: usize, k: usize) -> bool
     requires { Opens l.now e × (j ≤ max_edges) }
     ensures { result ≡ (ltb (sub_block_bits * j) e.bits && leb (sub_block_ones (edges_of (entry_in l.now)) j) k) }
 {
-    if Encoding::SUB_BLOCK_BITS * j < e.bits {
-        let n = bits::number2(l, e.sub_blocks + Encoding::SUB_BLOCK_ENTRY * j);
-        return n <= k;
-    }
-    false
+    Encoding::SUB_BLOCK_BITS * j < e.bits
+        && bits::number2(l, e.sub_blocks + Encoding::SUB_BLOCK_ENTRY * j) <= k
 }
 
 // The last sub-block of a block with at most k set bits of the block before it, by halving.
@@ -357,10 +322,7 @@ fn level_start(l: &[u8], e: Encoding, d: usize) -> EdgeOffset
 fn guess_from(last: EdgeOffset, o: EdgeOffset) -> EdgeOffset
     requires { o.0 ≤ max_edges }
 {
-    if 2 * o.0 < last.0 {
-        return EdgeOffset(0);
-    }
-    EdgeOffset(2 * o.0 - last.0)
+    EdgeOffset((2 * o.0).saturating_sub(last.0))
 }
 
 // ---- Paths and their keys
@@ -371,12 +333,10 @@ fn path_at(l: &[u8], t: &[u8], places: &[u32], e: Encoding, i: MemberIndex, offs
 {
     let n = i.0;
     let mut r = e.bits / 2 + n;
-    let mut d = e.width;
     let mut end = e.bits;
     let mut last = e.bits;
     let mut guess = e.bits;
-    while 0 < d {
-        d -= 1;
+    for d in (0..e.width).rev() {
         let start = level_start(l, e, d);
         let k = r - end / 2;
         let o = edge_up(
@@ -399,58 +359,28 @@ fn path_at(l: &[u8], t: &[u8], places: &[u32], e: Encoding, i: MemberIndex, offs
     }
 }
 
-// Bit q of the key of a path; none behind its last.
-fn key_bit(offsets: &[usize], m: usize, q: usize) -> usize
-    requires { m ≤ length offsets.now }
-    ensures { result ≡ bit (get_or (key_of_path offsets.now m) q false) }
+// The low bits of offsets as one number, the first the highest.
+fn low_bits(offsets: &[usize]) -> usize
+    requires { length offsets.now ≤ 8 }
+    ensures { result ≡ bits_value (key_of_path offsets.now (length offsets.now)) 0 }
 {
-    if q < m {
-        return offsets[q] % 2;
+    let mut bits = 0;
+    for offset in offsets {
+        bits = 2 * bits + offset % 2;
     }
-    0
+    bits
 }
 
-// Byte j of the key of a path, bit by bit; a key has fewer bytes than it may have bits.
-fn part_byte(offsets: &[usize], m: usize, j: usize) -> u8
-    requires { (m ≤ length offsets.now) × (j < max_width) }
-    ensures { result ≡ byte_of (key_of_path offsets.now m) j }
-{
-    let mut v: usize = 0;
-    let mut e: usize = 0;
-    while e < 8 {
-        let x = key_bit(offsets, m, 8 * j + e);
-        v = 2 * v + x;
-        e += 1;
-    }
-    v as u8
-}
-
-// The same for a byte whose bits are all of the key.
-fn whole_byte(offsets: &[usize], m: usize, j: usize) -> u8
-    requires { (m ≤ length offsets.now) × (8 * j + 8 ≤ m) × (j < max_width) }
-    ensures { result ≡ byte_of (key_of_path offsets.now m) j }
-{
-    let at = 8 * j;
-    let a = offsets[at] % 2;
-    let b = 2 * a + offsets[at + 1] % 2;
-    let c = 2 * b + offsets[at + 2] % 2;
-    let d = 2 * c + offsets[at + 3] % 2;
-    let e = 2 * d + offsets[at + 4] % 2;
-    let f = 2 * e + offsets[at + 5] % 2;
-    let g = 2 * f + offsets[at + 6] % 2;
-    let h = 2 * g + offsets[at + 7] % 2;
-    h as u8
-}
-
-// Byte j of the key of a path.
+// Byte j of the key of a path; the bits behind its last are 0. Eight bits, of all bytes but the last, are a loop that the compiler unrolls.
 fn key_byte(offsets: &[usize], m: usize, j: usize) -> u8
-    requires { (m ≤ length offsets.now) × (j < max_width) }
+    requires { (m ≤ length offsets.now) × (8 * j < m) × (m ≤ max_width) }
     ensures { result ≡ byte_of (key_of_path offsets.now m) j }
 {
-    if 8 * j + 8 <= m {
-        return whole_byte(offsets, m, j);
+    let from = 8 * j;
+    if from + 8 <= m {
+        return low_bits(&offsets[from..from + 8]) as u8;
     }
-    part_byte(offsets, m, j)
+    (low_bits(&offsets[from..m]) << (from + 8 - m)) as u8
 }
 
 // Writes the key of a path to the front of a buffer.
@@ -459,19 +389,10 @@ pub fn write_key(offsets: &[usize], m: usize, out: &mut [u8]) -> usize
     ensures { (result ≡ key_bytes m) × (out.new ≡ front (pack_bits (key_of_path offsets.now m)) out.old) }
 {
     let t = bits::bytes_for(m);
-    let mut j: usize = 0;
-    while j < t {
+    for j in 0..t {
         out[j] = key_byte(offsets, m, j);
-        j += 1;
     }
     t
-}
-
-// Room for a path.
-fn room() -> [usize; Encoding::MAX_WIDTH]
-    ensures { length result ≡ max_width }
-{
-    [0usize; Encoding::MAX_WIDTH]
 }
 
 // ---- Questions behind the check
@@ -541,7 +462,7 @@ pub fn key_at_in(
     if out.len() < bits::bytes_for(m) {
         return WrittenKey::Refused(SHORT_BUFFER);
     }
-    let mut offsets = room();
+    let mut offsets = [0usize; Encoding::MAX_WIDTH];
     path_at(l, t, places, e, i, &mut offsets);
     let n = write_key(&offsets, m, out);
     WrittenKey::Bytes(n)

@@ -7,21 +7,16 @@ use Rattle.loes.specs.Read.{entry_in}
 use Rattle.query.proofs.block_of.Goals as goal
 
 pub loop-j-init : goal.loop-j-init
-loop-j-init c = (c.requires.1, omega (arith, first_block (edges_of (entry_in c.args.l.now))))
-
-pub overflow_mul-j : goal.overflow_mul-j
-overflow_mul-j c = omega (arith, (opens_room _ _ c.requires.0).few, c.loop-j.invariant.0)
+loop-j-init c = omega (arith, first_block (edges_of (entry_in c.args.l.now)))
 
 pub overflow_add-e : goal.overflow_add-e
-overflow_add-e c = omega (arith, (block_at _ _ c.requires.0 (c.loop-j.j + 1) c.loop-j-test.true).0, (opens_room _ _ c.requires.0).bytes)
+overflow_add-e c = omega (arith, (block_at _ _ c.requires.0 (c.loop-j.j + 1) (omega arith)).0, (opens_room _ _ c.requires.0).bytes)
 
-pub number8-n-requires : goal.number8-n-requires
-number8-n-requires c = (block_at _ _ c.requires.0 (c.loop-j.j + 1) c.loop-j-test.true).0
+pub number8-requires : goal.number8-requires
+number8-requires c = (block_at _ _ c.requires.0 (c.loop-j.j + 1) (omega arith)).0
 
-pub returns-then-k-n : goal.returns-then-k-n
-returns-then-k-n c = let i = c.loop-j in
-    let z = (block_at _ _ c.requires.0 (i.j + 1) c.loop-j-test.true).1 in
-    (i.invariant.0, i.invariant.1, λ h. omega (arith, z, c.number8-n.ensures, c.if-k-n.true))
+pub returns-then-k-number8 : goal.returns-then-k-number8
+returns-then-k-number8 c = (omega arith, c.loop-j.invariant, λ h. omega (arith, (block_at _ _ c.requires.0 (c.loop-j.j + 1) h).1, c.number8.ensures, c.if-k-number8.true))
 
 pub loop-j-preserved : goal.loop-j-preserved
-loop-j-preserved c = let t = c.loop-j-test.true in (t, let z = (block_at _ _ c.requires.0 (c.loop-j.j + 1) t).1 in omega (arith, z, c.number8-n.ensures, c.if-k-n.false))
+loop-j-preserved c = omega (arith, (block_at _ _ c.requires.0 (c.loop-j.j + 1) (omega arith)).1, c.number8.ensures, c.if-k-number8.false)

@@ -1,12 +1,8 @@
-use Prim.Native.Nat.{◌*◌, ◌-◌, ◌≤◌, ◌<◌}
-use Rattle.loes.specs.Limits.{block_bits}
+use Prim.Native.Nat.{◌≤◌}
 use Rattle.loes.specs.Encode.{block_ones}
 use Rattle.loes.specs.Entry.{edges_of}
 use Rattle.loes.specs.Read.{entry_in}
 use Rattle.query.proofs.block_of.Given as goal
 
 abbrev pub invariant-loop-j : goal.invariant-loop-j
-invariant-loop-j l = (block_bits * l.j < l.b) × (block_ones (edges_of (entry_in l.l)) l.j ≤ l.k)
-
-abbrev pub decreases-loop-j : goal.decreases-loop-j
-decreases-loop-j l = l.b - l.j
+invariant-loop-j l = block_ones (edges_of (entry_in l.l)) l.j ≤ l.k

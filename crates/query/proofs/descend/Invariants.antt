@@ -1,10 +1,6 @@
-use Prim.Native.Nat.{◌-◌, ◌≤◌}
 use Rattle.loes.specs.Read.{entry_in}
 use Rattle.query.specs.Descent.{Way}
 use Rattle.query.proofs.descend.Given as goal
 
 abbrev pub invariant-loop-d : goal.invariant-loop-d
-invariant-loop-d l = (l.d ≤ l.levels) × Way (entry_in l.l) l.key l.d l.at.«record».0 l.at.found
-
-abbrev pub decreases-loop-d : goal.decreases-loop-d
-decreases-loop-d l = l.levels - l.d
+invariant-loop-d l = Way (entry_in l.l) l.key l.d l.at.«record».0 l.at.found

@@ -1,15 +1,13 @@
-use native.Mathlib.Omega.{arith}
+use mathlib.Core.Path.{refl, ap}
+use Prim.Native.Nat.{◌+◌, ◌*◌}
+use Rattle.query.proofs.BitLists.{byte_bit}
 use Rattle.query.specs.Descent.{edge_from}
-use Rattle.query.proofs.edge_from.Lts.{else-at-via-then-at+else-bit, else-at-via-else-at}
+use Rattle.query.proofs.edge_from.Goals.{then-at, else-at}
 use Rattle.query.proofs.edge_from.Goals as goal
-
-pub returns-then-bit : goal.returns-then-bit
-unfolding edge_from
-returns-then-bit c = rw (c.if-at.true, c.if-bit.true)
 
 pub returns : goal.returns
 unfolding edge_from
-returns c = elim c.else-at.branch [
-  | else-at-via-then-at+else-bit w ↦ rw (w.if-at.true, w.if-bit.false) (omega arith)
-  | else-at-via-else-at w ↦ rw w.if-at.false (omega arith)
+returns c = elim c.if-at.branch [
+  | then-at w ↦ rw (w.if-at.true, c.from.ensures, w.from-is) (ap (λ x. 2 * c.args.at.record.0 + x) (byte_bit c.args.bit))
+  | else-at w ↦ rw (c.from.ensures, w.from-is, w.if-at.false) refl
 ]

@@ -17,15 +17,14 @@ unfolding key_bytes started
 returns-then-out-bytes_for c = key_short _ _ _ (omega (arith, c.if-e-i.false, c.requires.0.count)) (omega (arith, c.if-out-bytes_for.true, c.bytes_for.ensures.0, c.requires.0.width))
 
 pub path_at-requires : goal.path_at-requires
-path_at-requires c = let z = c.room-offsets.ensures in
-    (c.requires.0, c.requires.1, c.requires.2, c.if-e-i.false, omega (arith, z, (opens_valid _ _ c.requires.0).narrow, c.requires.0.width))
+path_at-requires c = (c.requires.0, c.requires.1, c.requires.2, c.if-e-i.false, omega (arith, (opens_valid _ _ c.requires.0).narrow, c.requires.0.width))
 
 pub write_key-n-requires : goal.write_key-n-requires
 unfolding key_bytes started
 write_key-n-requires c = let b = c.bytes_for.ensures.0 in
     let q = c.path_at.ensures in
     let w = c.requires.0.width in
-    let z = path_long _ (opens_valid _ _ c.requires.0) c.args.i.0 (omega (arith, c.if-e-i.false, c.requires.0.count)) c.room-offsets.result in
+    let z = path_long _ (opens_valid _ _ c.requires.0) c.args.i.0 (omega (arith, c.if-e-i.false, c.requires.0.count)) _ in
     (omega (arith, (opens_valid _ _ c.requires.0).narrow, w), rw (q, w) z, omega (arith, b, c.if-out-bytes_for.false))
 
 pub returns : goal.returns

@@ -6,6 +6,3 @@ use Rattle.query.proofs.path_at.Given as goal
 
 abbrev pub invariant-loop-d : goal.invariant-loop-d
 invariant-loop-d l = UpTo (entry_in l.l) l.n l.d l.r l.initial.offsets l.offsets × (l.end ≡ level_start (entry_in l.l) l.d)
-
-abbrev pub decreases-loop-d : goal.decreases-loop-d
-decreases-loop-d l = l.d

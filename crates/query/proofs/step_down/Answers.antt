@@ -11,4 +11,4 @@ unfolding edge_from
 edge_from-o-requires c = omega (arith, (opens_room _ _ c.requires.0).few, c.requires.2)
 
 pub overflow_add-result : goal.overflow_add-result
-overflow_add-result c = omega (arith, c.ones_before-n.ensures, (rank_le (edges_of (entry_in c.args.l.now)) c.edge_from-o.result.0).0, c.edge_from-o.ensures, c.requires.2, (opens_room _ _ c.requires.0).few)
+overflow_add-result c = omega (arith, c.ones_before.ensures, (rank_le (edges_of (entry_in c.args.l.now)) c.edge_from-o.result.0).0, c.edge_from-o.ensures, c.requires.2, (opens_room _ _ c.requires.0).few)
