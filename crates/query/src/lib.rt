@@ -163,15 +163,15 @@ fn find_from(edges: &[u8], t: &[u8], from: usize, left: usize) -> BitInByte
     requires { Tallies t.now × (length edges.now ≤ max_bytes) × (numbered edges.now from left < ones (bits_in edges.now (8 * (length edges.now - 8)))) }
     ensures { InByte edges.now (numbered edges.now from left) result.byte result.number }
 {
-    let mut i = from;
-    let mut k = left;
-    let mut c = bits::word_ones(edges, i);
-    while c <= k {
-        k -= c;
-        i += 8;
-        c = bits::word_ones(edges, i);
+    let mut number = left;
+    for byte in (from..edges.len() - 8).step_by(8) {
+        let ones = bits::word_ones(edges, byte);
+        if number < ones {
+            return find_in_bytes(edges, t, byte, number);
+        }
+        number -= ones;
     }
-    find_in_bytes(edges, t, i, k)
+    unreachable!()
 }
 
 // The last block with at most k set bits before it.

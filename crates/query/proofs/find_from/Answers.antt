@@ -1,35 +1,30 @@
-use mathlib.Core.Path.{◌≡◌, refl, ◌∙◌}
-use Prim.Native.Nat.{◌+◌, ◌-◌, ◌*◌, ◌<◌}
+use mathlib.Core.Path.{◌∙◌}
+use Prim.Native.Nat.{◌+◌, ◌-◌, ◌*◌}
 use native.Mathlib.Omega.{arith}
 use lib.ListN.{length}
-use Rattle.query.specs.Select.{numbered}
 use Rattle.query.proofs.Select.{in_words, next_word, ones_mono}
+use Rattle.query.proofs.find_from.Goals.{else-loop-byte-test, then-loop-byte-test+else-number-ones+else-byte-end-byte-gt8}
 use Rattle.query.proofs.find_from.Goals as goal
 
-pub word_ones-c-requires : goal.word_ones-c-requires
-word_ones-c-requires c =
-    let first : c.args.from + 8 < length c.args.edges.now = in_words c.args.edges.now c.args.from c.args.left c.requires.2 in
-    omega (arith, first)
-
-pub loop-c-init : goal.loop-c-init
-loop-c-init c =
-    let first : c.args.from + 8 < length c.args.edges.now = in_words c.args.edges.now c.args.from c.args.left c.requires.2 in
-    (first, c.word_ones-c.ensures, refl)
-
-pub word_ones-c-requires-in-loop-c : goal.word_ones-c-requires-in-loop-c
-word_ones-c-requires-in-loop-c c =
-    let stays : numbered c.args.edges.now (c.loop-c.i + 8) (c.loop-c.k - c.loop-c.c) ≡ numbered c.args.edges.now c.args.from c.args.left = next_word c.args.edges.now c.loop-c.i c.loop-c.k c.loop-c.c c.loop-c.invariant.1 c.loop-c-test.true ∙ c.loop-c.invariant.2 in
-    let further : c.loop-c.i + 8 + 8 < length c.args.edges.now = let z = stays in
-    in_words c.args.edges.now (c.loop-c.i + 8) (c.loop-c.k - c.loop-c.c) (omega (arith, z, c.requires.2)) in
-    omega (arith, further)
-
-pub loop-c-preserved : goal.loop-c-preserved
-loop-c-preserved c =
-    let stays : numbered c.args.edges.now (c.loop-c.i + 8) (c.loop-c.k - c.loop-c.c) ≡ numbered c.args.edges.now c.args.from c.args.left = next_word c.args.edges.now c.loop-c.i c.loop-c.k c.loop-c.c c.loop-c.invariant.1 c.loop-c-test.true ∙ c.loop-c.invariant.2 in
-    let further : c.loop-c.i + 8 + 8 < length c.args.edges.now = let z = stays in
-    in_words c.args.edges.now (c.loop-c.i + 8) (c.loop-c.k - c.loop-c.c) (omega (arith, z, c.requires.2)) in
-    (further, c.word_ones-c-in-loop-c.ensures, stays)
+pub overflow_sub-byte-end : goal.overflow_sub-byte-end
+overflow_sub-byte-end c = omega (arith, in_words c.args.edges.now c.args.from c.args.left c.requires.2)
 
 pub find_in_bytes-requires : goal.find_in_bytes-requires
 find_in_bytes-requires c = let d = c.args.edges.now in
-    (c.requires.0, c.requires.1, omega (arith, c.loop-c.invariant.2, c.requires.2, ones_mono d (8 * (length d - 8)) (8 * length d) (omega arith)))
+    (c.requires.0, c.requires.1, omega (arith, c.loop-byte.invariant, c.requires.2, ones_mono d (8 * (length d - 8)) (8 * length d) (omega arith)))
+
+pub loop-byte-preserved : goal.loop-byte-preserved
+loop-byte-preserved c = next_word c.args.edges.now c.loop-byte.byte c.loop-byte.number c.word_ones-ones.result c.word_ones-ones.ensures c.if-number-ones.false ∙ c.loop-byte.invariant
+
+pub unreachable-requires : goal.unreachable-requires
+unreachable-requires c =
+    let d = c.args.edges.now in
+    let b = c.loop-byte.byte in
+    let n = c.loop-byte.number in
+    let i = c.loop-byte.invariant in
+    elim c.loop-byte-test.branch [
+      | else-loop-byte-test w ↦ omega (arith, in_words d b n (omega (arith, i, c.requires.2)), w.loop-byte-test.false)
+      | then-loop-byte-test+else-number-ones+else-byte-end-byte-gt8 w ↦
+          let s = next_word d b n w.word_ones-ones.result w.word_ones-ones.ensures w.if-number-ones.false in
+          omega (arith, in_words d (b + 8) (n - w.word_ones-ones.result) (omega (arith, s, i, c.requires.2)), w.loop-byte-test.true)
+    ]
