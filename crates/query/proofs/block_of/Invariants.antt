@@ -5,4 +5,4 @@ use Rattle.loes.specs.Read.{entry_in}
 use Rattle.query.proofs.block_of.Given as goal
 
 abbrev pub invariant-loop-j : goal.invariant-loop-j
-invariant-loop-j l = block_ones (edges_of (entry_in l.l)) l.j ≤ l.k
+invariant-loop-j l = block_ones (edges_of (entry_in l.o.bytes.now)) l.j ≤ l.k

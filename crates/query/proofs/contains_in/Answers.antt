@@ -1,19 +1,9 @@
-use native.Mathlib.Omega.{arith}
-use Rattle.encoding.proofs.Opened.{opens_valid}
-use Rattle.query.proofs.Readings.{contains_refused, contains_is, key_room}
+use Rattle.std.proofs.lemmas.Result.{err_from_is_err_and}
+use Rattle.query.proofs.Readings.{contains_refused, contains_told}
 use Rattle.query.proofs.contains_in.Goals as goal
 
-pub bad_key-requires : goal.bad_key-requires
-bad_key-requires c = omega (arith, (opens_valid _ _ c.requires.0).narrow, c.requires.0.width)
-
-pub returns-then-bad_key : goal.returns-then-bad_key
-returns-then-bad_key c = contains_refused _ _ _ _ c.requires.0.width c.bad_key.ensures c.if-bad_key.true
-
-pub locate-p-requires : goal.locate-p-requires
-locate-p-requires c = (c.requires.0, c.requires.1, key_room c.args.key.now _ _ c.bad_key.ensures c.if-bad_key.false)
-
-pub returns-then-p : goal.returns-then-p
-returns-then-p c = rw c.if-p.true at (contains_is _ _ _ _ c.requires.0.width c.bad_key.ensures c.if-bad_key.false _ _ c.locate-p.ensures)
+pub returns-in_err-locate : goal.returns-in_err-locate
+returns-in_err-locate c = let p = err_from_is_err_and c.from_residual.result c.from_residual.ensures.1 in rw (p.1, p.2) (contains_refused _ _ _ c.in_err-locate.ensures)
 
 pub returns : goal.returns
-returns c = rw c.if-p.false at (contains_is _ _ _ _ c.requires.0.width c.bad_key.ensures c.if-bad_key.false _ _ c.locate-p.ensures)
+returns c = contains_told _ _ _ c.in_ok-locate.ensures

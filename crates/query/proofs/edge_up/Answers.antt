@@ -1,33 +1,25 @@
-use Prim.Native.Nat.{◌+◌, ◌*◌, ◌-◌, ◌<◌}
-use mathlib.Core.Path.{◌≡◌}
 use native.Mathlib.Omega.{arith}
-use lib.ListN.{length, get_or}
+use mathlib.Core.Path.{◌≡◌}
+use Prim.Native.Nat.{◌+◌, ◌*◌, ◌-◌}
 use Rattle.loes.specs.Entry.{edges_of}
 use Rattle.loes.specs.Read.{entry_in}
-use Rattle.bits.specs.Tables.{select, place_of}
+use Rattle.bits.specs.Tables.{select}
 use Rattle.encoding.proofs.Opened.{opens_valid, opens_room}
 use Rattle.query.proofs.Ascent.{edge_few}
 use Rattle.query.proofs.Index.{edge_in_byte}
 use Rattle.query.proofs.edge_up.Goals as goal
 
-pub overflow_mul-o : goal.overflow_mul-o
-overflow_mul-o c =
-    let found : let a = c.args in let r = c.find_edge-found.result in (a.e.edges + r.byte < length a.l.now) × (r.number < 8) × (8 * r.byte + place_of (get_or a.l.now (a.e.edges + r.byte) 0) r.number ≡ select (edges_of (entry_in a.l.now)) (a.r.0 - 1)) = edge_in_byte c.args.l.now c.args.e c.requires.0 (c.args.r.0 - 1) c.find_edge-found.result.byte c.find_edge-found.result.number c.requires.4 c.find_edge-found.ensures in
-    let z = found.0 in omega (arith, z, (opens_room _ _ c.requires.0).bytes)
+pub overflow_mul-result : goal.overflow_mul-result
+overflow_mul-result c = omega (arith, (edge_in_byte _ _ c.args.o.opens _ _ _ c.requires.1 c.find_edge-found.ensures).0, (opens_room _ _ c.args.o.opens).bytes)
 
 pub place-requires : goal.place-requires
-place-requires c =
-    let found : let a = c.args in let r = c.find_edge-found.result in (a.e.edges + r.byte < length a.l.now) × (r.number < 8) × (8 * r.byte + place_of (get_or a.l.now (a.e.edges + r.byte) 0) r.number ≡ select (edges_of (entry_in a.l.now)) (a.r.0 - 1)) = edge_in_byte c.args.l.now c.args.e c.requires.0 (c.args.r.0 - 1) c.find_edge-found.result.byte c.find_edge-found.result.number c.requires.4 c.find_edge-found.ensures in
-    (c.requires.2, found.1)
+place-requires c = (edge_in_byte _ _ c.args.o.opens _ _ _ c.requires.1 c.find_edge-found.ensures).1
 
-pub overflow_add-o : goal.overflow_add-o
-overflow_add-o c =
-    let found : let a = c.args in let r = c.find_edge-found.result in (a.e.edges + r.byte < length a.l.now) × (r.number < 8) × (8 * r.byte + place_of (get_or a.l.now (a.e.edges + r.byte) 0) r.number ≡ select (edges_of (entry_in a.l.now)) (a.r.0 - 1)) = edge_in_byte c.args.l.now c.args.e c.requires.0 (c.args.r.0 - 1) c.find_edge-found.result.byte c.find_edge-found.result.number c.requires.4 c.find_edge-found.ensures in
-    let offset : let a = c.args in 8 * c.find_edge-found.result.byte + c.place.result ≡ select (edges_of (entry_in a.l.now)) (a.r.0 - 1) = rw c.place.ensures found.2 in
-    omega (arith, offset, edge_few (entry_in c.args.l.now) (c.args.r.0 - 1) (opens_valid _ _ c.requires.0))
+pub overflow_add-result : goal.overflow_add-result
+overflow_add-result c =
+    let offset : 8 * c.find_edge-found.result.byte + c.place.result ≡ select (edges_of (entry_in c.args.o.bytes.now)) (c.args.r.0 - 1) =
+    rw c.place.ensures (edge_in_byte _ _ c.args.o.opens _ _ _ c.requires.1 c.find_edge-found.ensures).2 in
+    omega (arith, offset, edge_few (entry_in c.args.o.bytes.now) (c.args.r.0 - 1) (opens_valid _ _ c.args.o.opens))
 
 pub returns : goal.returns
-returns c =
-    let found : let a = c.args in let r = c.find_edge-found.result in (a.e.edges + r.byte < length a.l.now) × (r.number < 8) × (8 * r.byte + place_of (get_or a.l.now (a.e.edges + r.byte) 0) r.number ≡ select (edges_of (entry_in a.l.now)) (a.r.0 - 1)) = edge_in_byte c.args.l.now c.args.e c.requires.0 (c.args.r.0 - 1) c.find_edge-found.result.byte c.find_edge-found.result.number c.requires.4 c.find_edge-found.ensures in
-    let offset : let a = c.args in 8 * c.find_edge-found.result.byte + c.place.result ≡ select (edges_of (entry_in a.l.now)) (a.r.0 - 1) = rw c.place.ensures found.2 in
-    offset
+returns c = rw c.place.ensures (edge_in_byte _ _ c.args.o.opens _ _ _ c.requires.1 c.find_edge-found.ensures).2

@@ -4,8 +4,8 @@ use lib.ListN.{length}
 use Rattle.query.specs.Select.{numbered}
 use Rattle.query.proofs.find_from.Given as goal
 
-abbrev pub invariant-loop-byte : goal.invariant-loop-byte
-invariant-loop-byte l = numbered l.edges l.byte l.number ≡ numbered l.edges l.from l.left
+abbrev pub invariant-loop-number : goal.invariant-loop-number
+invariant-loop-number l = numbered l.edges l.byte l.number ≡ numbered l.edges l.from l.left
 
-abbrev pub decreases-loop-byte : goal.decreases-loop-byte
-decreases-loop-byte l = length l.edges - l.byte
+abbrev pub decreases-loop-number : goal.decreases-loop-number
+decreases-loop-number l = length l.edges - l.byte

@@ -17,4 +17,4 @@ returns-then-d-eq0 c = search rules
 pub returns : goal.returns
 unfolding level_start level_end
 returns c = let z : suc (c.args.d - 1) ≡ c.args.d = omega arith in
-    c.level_end.ensures ∙ ap (λ n. length (edges_before n (entry_in c.args.l.now).width (entry_in c.args.l.now).set)) z
+    c.level_end.ensures ∙ ap (λ n. length (edges_before n (entry_in c.args.o.bytes.now).width (entry_in c.args.o.bytes.now).set)) z

@@ -5,4 +5,4 @@ use Rattle.query.proofs.Ascent.{UpTo}
 use Rattle.query.proofs.path_at.Given as goal
 
 abbrev pub invariant-loop-d : goal.invariant-loop-d
-invariant-loop-d l = UpTo (entry_in l.l) l.n l.d l.r l.initial.offsets l.offsets × (l.end ≡ level_start (entry_in l.l) l.d)
+invariant-loop-d l = UpTo (entry_in l.o.bytes.now) l.fn.i.0 l.d l.«record» l.initial.offsets l.offsets × (l.end ≡ level_start (entry_in l.o.bytes.now) l.d)

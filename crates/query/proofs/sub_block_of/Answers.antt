@@ -8,7 +8,7 @@ use Rattle.encoding.proofs.Pass.{sub_block_first}
 use Rattle.query.proofs.sub_block_of.Goals as goal
 
 pub loop-low-init : goal.loop-low-init
-loop-low-init c = ((omega arith, omega arith, omega arith), omega (arith, c.requires.1), omega (arith, sub_block_first (edges_of (entry_in c.args.l.now)) (sub_blocks * c.args.block) (omega arith)), λ h. absurd (omega arith))
+loop-low-init c = ((omega arith, omega arith, omega arith), omega (arith, c.requires), omega (arith, sub_block_first (edges_of (entry_in c.args.o.bytes.now)) (sub_blocks * c.args.block) (omega arith)), λ h. absurd (omega arith))
 
 pub begins_by-requires : goal.begins_by-requires
-begins_by-requires c = (c.requires.0, omega (arith, (opens_room _ _ c.requires.0).few, c.requires.1))
+begins_by-requires c = omega (arith, (opens_room _ _ c.args.o.opens).few, c.requires)
