@@ -163,27 +163,34 @@ fn print_numbers(rt: &impl Print, o: Opened<'_>) -> io::Result<()> {
     write_numbers(rt, o.bytes, &text[..n])
 }
 
-// Prints a page of lines, and returns one that goes on from it.
-fn print_page<'a>(rt: &impl Print, from: Page<'a>) -> io::Result<Page<'a>>
-    requires { (from.length ≡ 0) × (from.index.0 < from.opened.encoding.count) }
-    ensures { IfOk result (λ next. (next.opened ≡ from.entry.opened) × (next.length ≡ 0) × (from.entry.index.0 < next.index.0)) }
+// Prints a page of lines, and leaves one that goes on from it.
+fn print_page(rt: &impl Print, page: &mut Page<'_>) -> io::Result<()>
+    requires { (page.old.length ≡ 0) × (page.old.index.0 < page.old.opened.encoding.count) }
+    ensures { IfOk result (λ _. (page.new.opened ≡ page.old.opened) × (page.new.length ≡ 0) × (page.old.index.0 < page.new.index.0)) }
 {
     let mut text = [0u8; PAGE];
-    let mut p = from.fill(&mut text);
-    write_members(rt, p.opened.bytes, from.index, p.index, &text[..p.length])?;
-    p.length = 0;
-    Ok(p)
+    let from = page.index;
+    page.fill(&mut text);
+    write_members(
+        rt,
+        page.opened.bytes,
+        from,
+        page.index,
+        &text[..page.length],
+    )?;
+    page.length = 0;
+    Ok(())
 }
 
 // Prints the lines of the members, page by page, and returns the index that it came to.
 fn print_members(rt: &impl Print, o: Opened<'_>) -> io::Result<MemberIndex>
     ensures { IfOk result (λ to. to.0 ≡ count (entry_in o.entry.bytes.now)) }
 {
-    let mut p = Page::first(o);
-    while p.index.0 < o.encoding.count {
-        p = print_page(rt, p)?;
+    let mut page = Page::first(o);
+    while page.index.0 < o.encoding.count {
+        print_page(rt, &mut page)?;
     }
-    Ok(p.index)
+    Ok(page.index)
 }
 
 fn print_refused(rt: &impl Print, l: &[u8], refusal: Refusal) -> io::Result<()>

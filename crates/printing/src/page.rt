@@ -10,7 +10,7 @@ use encoding::Encoding;
 use encoding::opening::Opened;
 
 // How far a page has come in an encoding: the cursor, the index of the member that it goes to next, and the bytes of text.
-#[derive(Clone, Copy)]
+#[derive(Drop)]
 pub struct Page<'a> {
     pub opened: Opened<'a>,
     pub cursor: Cursor,
@@ -37,31 +37,23 @@ impl<'a> Page<'a> {
     }
 
     // One more line: a step, which is not refused, and the line of the member it went to.
-    fn put_next(self, text: &mut [u8]) -> Page<'a>
-        requires { (self.index.0 < self.opened.encoding.count) × (self.length + max_line ≤ length text.old) }
-        ensures { (result.opened ≡ self.entry.opened) × PutsNext (entry_in self.entry.opened.bytes.now) self.entry text.old result text.new }
+    fn put_next(&mut self, text: &mut [u8])
+        requires { (self.old.index.0 < self.old.opened.encoding.count) × (self.old.length + max_line ≤ length text.old) }
+        ensures { (self.new.opened ≡ self.old.opened) × PutsNext (entry_in self.old.opened.bytes.now) self.old text.old self.new text.new }
     {
         let mut key = [0u8; Encoding::MAX_KEY_BYTES];
-        let mut cursor = self.cursor;
-        let written = cursor::advance(self.opened, &mut cursor, &mut key).unwrap();
-        let length = put_member(text, self.length, self.index, &key[..written]);
-        Page {
-            opened: self.opened,
-            cursor,
-            index: MemberIndex(self.index.0 + 1),
-            length,
-        }
+        let written = cursor::advance(self.opened, &mut self.cursor, &mut key).unwrap();
+        self.length = put_member(text, self.length, self.index, &key[..written]);
+        self.index = MemberIndex(self.index.0 + 1);
     }
 
     // More lines, while members are left and there is room for any line.
-    pub fn fill(self, text: &mut [u8]) -> Page<'a>
-        requires { self.length ≤ length text.old }
-        ensures { (result.opened ≡ self.entry.opened) × Fills (entry_in self.entry.opened.bytes.now) self.entry text.old result text.new × Full (entry_in self.entry.opened.bytes.now) result text.new }
+    pub fn fill(&mut self, text: &mut [u8])
+        requires { self.old.length ≤ length text.old }
+        ensures { (self.new.opened ≡ self.old.opened) × Fills (entry_in self.old.opened.bytes.now) self.old text.old self.new text.new × Full (entry_in self.old.opened.bytes.now) self.new text.new }
     {
-        let mut p = self;
-        while p.index.0 < p.opened.encoding.count && LINE <= text.len() - p.length {
-            p = p.put_next(text);
+        while self.index.0 < self.opened.encoding.count && LINE <= text.len() - self.length {
+            self.put_next(text);
         }
-        p
     }
 }

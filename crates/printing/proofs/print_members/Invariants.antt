@@ -1,8 +1,8 @@
 use Rattle.std.proofs.Common.{◌-◌, ◌≡◌}
 use Rattle.printing.proofs.print_members.Given as goal
 
-abbrev pub invariant-loop-p : goal.invariant-loop-p
-invariant-loop-p g l = (l.p.opened ≡ l.o) × (l.p.length ≡ 0)
+abbrev pub invariant-loop-page : goal.invariant-loop-page
+invariant-loop-page g l = (l.page.opened ≡ l.o) × (l.page.length ≡ 0)
 
-abbrev pub decreases-loop-p : goal.decreases-loop-p
-decreases-loop-p g l = l.o.encoding.count - l.p.index.0
+abbrev pub decreases-loop-page : goal.decreases-loop-page
+decreases-loop-page g l = l.o.encoding.count - l.page.index.0

@@ -4,8 +4,8 @@ use Rattle.loes.specs.Read.{entry_in}
 use Rattle.printing.specs.Pages.{Fills}
 use Rattle.printing.proofs.page.Page.fill.Given as goal
 
-abbrev pub invariant-loop-p : goal.invariant-loop-p
-invariant-loop-p l = (l.p.opened ≡ l.fn.self.opened) × Fills (entry_in l.fn.self.opened.bytes.now) l.fn.self l.fn.text l.p l.text
+abbrev pub invariant-loop-self : goal.invariant-loop-self
+invariant-loop-self l = (l.self.opened ≡ l.fn.self.opened) × Fills (entry_in l.fn.self.opened.bytes.now) l.fn.self l.fn.text l.self l.text
 
-abbrev pub decreases-loop-p : goal.decreases-loop-p
-decreases-loop-p l = l.fn.self.opened.encoding.count - l.p.index.0
+abbrev pub decreases-loop-self : goal.decreases-loop-self
+decreases-loop-self l = l.fn.self.opened.encoding.count - l.self.index.0

@@ -16,24 +16,24 @@ use Rattle.loes.specs.Entry.{Entry}
 -- what the step from here leaves
 module _ (c : After-advance) where
   abbrev e : Entry
-  e = entry_in c.args.self.opened.bytes.now
+  e = entry_in c.args.self.now.opened.bytes.now
 
   valid : Valid e
-  valid = opens_valid _ _ c.args.self.opened.opens
+  valid = opens_valid _ _ c.args.self.now.opened.opens
 
-  there : c.args.self.index.0 < count e
-  there = omega (arith, c.args.self.opened.opens.count, c.requires.0)
+  there : c.args.self.now.index.0 < count e
+  there = omega (arith, c.args.self.now.opened.opens.count, c.requires.0)
 
   -- it returns its key's bytes
   wrote : c.advance.result ≡ Ok (key_bytes e.width)
-  wrote = next_wrote e valid c.args.self c.args.self.stands there _ refl _ _ _ c.advance.ensures
+  wrote = next_wrote e valid c.args.self.now c.args.self.now.stands there _ refl _ _ _ c.advance.ensures
 
   -- it wrote that key, and stands at its member
-  key : take (key_bytes e.width) c.advance.new.out ≡ key_bytes_at e c.args.self.index.0
-  key = next_key e valid c.args.self c.args.self.stands there _ refl _ _ _ c.advance.ensures
+  key : take (key_bytes e.width) c.advance.new.out ≡ key_bytes_at e c.args.self.now.index.0
+  key = next_key e valid c.args.self.now c.args.self.now.stands there _ refl _ _ _ c.advance.ensures
 
-  stands : StandsAt e c.advance.new.cursor (c.args.self.index.0 + 1)
-  stands = next_stands e valid c.args.self c.args.self.stands there _ refl _ _ _ c.advance.ensures
+  stands : StandsAt e c.advance.new.cursor (c.args.self.now.index.0 + 1)
+  stands = next_stands e valid c.args.self.now c.args.self.now.stands there _ refl _ _ _ c.advance.ensures
 
   -- so many bytes, and no more than a key can have
   told : (n : ℕ) → c.advance.result ≡ Ok n → n ≡ key_bytes e.width
@@ -42,8 +42,8 @@ module _ (c : After-advance) where
   short : (n : ℕ) → c.advance.result ≡ Ok n → n ≤ 32
   short n h = omega (arith, told n h, key_most e valid)
 
-  -- the index is a number of 64 bits
-  small : c.args.self.index.0 < 2 ^ 64
+  -- the next index is a number of 64 bits too
+  small : c.args.self.now.index.0 + 1 < 2 ^ 64
   small = omega (arith, there, count_le e valid.positive, valid.few)
 
 pub unwrap-written-requires : goal.unwrap-written-requires
@@ -57,16 +57,19 @@ slice_bounds-put_member-end c =
     let h : c.unwrap-written.result ≤ length c.advance.new.out = omega (arith, short (goal.at.slice_bounds-put_member-end c).After-advance _ c.unwrap-written.ensures) in
     sym (length-take-le c.unwrap-written.result c.advance.new.out h)
 
-pub put_member-length-requires : goal.put_member-length-requires
-put_member-length-requires c =
-    let at = (goal.at.put_member-length-requires c).After-advance in
+pub put_member-self-requires : goal.put_member-self-requires
+put_member-self-requires c =
+    let at = (goal.at.put_member-self-requires c).After-advance in
     let k = c.unwrap-written.result in
     let f : k ≤ 32 = short at _ c.unwrap-written.ensures in
     let h : k ≤ length c.advance.new.out = omega (arith, f) in
-    omega (arith, member_most c.args.self.index.0 (take k c.advance.new.out) (small at) (omega (arith, length-take-le k c.advance.new.out h, f)), c.requires.1)
+    omega (arith, member_most c.args.self.now.index.0 (take k c.advance.new.out) (omega (arith, small at)) (omega (arith, length-take-le k c.advance.new.out h, f)), c.requires.1)
 
-pub invariant_of-result : goal.invariant_of-result
-invariant_of-result c = record { stands = stands (goal.at.invariant_of-result c).After-advance }
+pub overflow_add-self : goal.overflow_add-self
+overflow_add-self c = omega (arith, small (goal.at.overflow_add-self c).After-advance)
+
+pub invariant_of-self : goal.invariant_of-self
+invariant_of-self c = record { stands = stands (goal.at.invariant_of-self c).After-advance }
 
 pub returns : goal.returns
 returns c =
@@ -74,7 +77,7 @@ returns c =
       refl,
       record {
         index = refl;
-        puts = rw (told at _ c.unwrap-written.ensures, key at) at c.put_member-length.ensures;
+        puts = rw (told at _ c.unwrap-written.ensures, key at) at c.put_member-self.ensures;
         stands = stands at;
       },
     )
