@@ -152,14 +152,6 @@ pub cursor_wrong : (e : Entry) (os : List ℕ) → false ≡ has_path e os → f
 unfolding offsets_right has_path
 cursor_wrong e os h = rw (← h)
 
--- ---- turn_level
-pub stuck_more : (e : List Bool) (m d : ℕ) (os : List ℕ) → ((j : ℕ) → d ≤ j → j < m → turns e (get_or os j 0) ≡ false) → turns e (get_or os (d - 1) 0) ≡ false
-    → (j : ℕ) → d - 1 ≤ j → j < m → turns e (get_or os j 0) ≡ false
-stuck_more e m d os h x j a c = elim (dec_le d j) [
-  | yes y ↦ h j y c
-  | no y ↦ let z : j ≡ d - 1 = omega arith in ap (λ i. turns e (get_or os i 0)) z ∙ x
-]
-
 -- ---- next_offset
 pub behind_at : (e : List Bool) (t d q : ℕ) → d ≡ t → q + 1 ≡ behind e t d q
 unfolding behind
@@ -192,14 +184,6 @@ module _ (e : List Bool) (b m t : ℕ) (os₀ : List ℕ) (h : Movable b m t os�
   }
 
   module _ (os : List ℕ) (d : ℕ) (v : MovedTo e m t os₀ os d) (dm : d < m) where
-    pub move_small : d ≡ t → get_or os d 0 < b
-    move_small z = rw (v.rest d (omega arith), z) h.small
-
-    pub move_room : (d ≡ t → ⊥) → 2 * (get_or os d 0 / 2 + 1) < b
-    move_room z =
-        let l : t < d = elim (dec_le (suc t) d) [ yes y ↦ y | no y ↦ absurd (z (omega (arith, v.low))) ] in
-        rw (v.rest d (omega arith)) (h.next d l dm)
-
     pub move_next : (x : ℕ) → x ≡ behind e t d (get_or os d 0) → MovedTo e m t os₀ (set os d x) (d + 1)
     move_next x q =
         let f : ℕ → ℕ = λ (i : ℕ). get_or os₀ i 0 in

@@ -19,7 +19,7 @@ use Rattle.loes.specs.Cursor.{Cursor, cursor_with, Advanced, is_cursor_of, next_
 use Rattle.loes.proofs.Lists.{rest_is}
 use Rattle.loes.proofs.Tests.{lt_yes, lt_no, yes_lt, no_lt, eq_no}
 use Rattle.loes.proofs.Members.{key_bytes_lem}
-use Rattle.loes.proofs.Cursors.{cursor_at, right_at, right_none, right_parts, advance_on, advance_out}
+use Rattle.loes.proofs.Cursors.{cursor_at, right_at, right_none, advance_on, advance_out}
 use Rattle.cursor.proofs.Stepping.{step_short}
 use Rattle.cursor.specs.declared.Walked.{Walked}
 use Rattle.cursor.specs.Steps.{state_of, step_answer, walked_of}
@@ -111,9 +111,6 @@ module _ (e : Entry) (from : ℕ) (os₀ : List ℕ) (out₀ : Bytes) (os : List
 
   abbrev whole : Advanced
   whole = goes_on (length out₀) e from out₀ (cursor_with spec.at os₀)
-
-  pub walk_levels : is_cursor_of e (cursor_with spec.at os₀) ≡ true → length os ≡ length os₀
-  walk_levels r = (right_parts e c w.right).0 ∙ sym (right_parts e (cursor_with spec.at os₀) r).0
 
   -- no room for another key
   pub walk_full : length out - n < key_bytes e.width → leaves n out c ≡ whole

@@ -11,21 +11,11 @@ use lib.Seq.{drop-cons, ext_get_or, get_or-set_same, get_or-set_other}
 use lib.Bits.{bit_or, or_add_and, and_le_r}
 use lib.Dec.{eqb}
 use borrow.Author.Tests.{ne_eqb}
-use mir.Val.{Val}
-use denote.Laws.{Is}
-use denote.Struct.Laws as LL
 use Rattle.loes.specs.Keys.{any_of}
 use Rattle.loes.specs.Cursor.{all_zero}
 use Rattle.loes.proofs.Lists.{get_d_map_in}
 use Rattle.bits.specs.declared.EdgeOffset.{EdgeOffset}
-use Rattle.cursor.specs.declared.Cursor.{Cursor}
 use Rattle.cursor.specs.Steps.{numbers}
-use Rattle.cursor.specs.contracts.Cursor as C
-use Rattle.cursor.proofs.Cursor.TheLaws as C'
-
--- the array has as many offsets as its type says
-pub cursor_long : (c : Cursor) (vs : List Val) → Is C.the_row c vs → length c.offsets ≡ 256
-cursor_long c vs is = (LL.owed C.the_type C'.the_laws c vs is).1.0.1.0.1
 
 pub numbers_long : (os : List EdgeOffset) → length (numbers os) ≡ length os
 unfolding numbers

@@ -11,8 +11,7 @@ use Rattle.loes.specs.Limits.{max_width}
 use Rattle.loes.specs.Bytes.{Bytes, pack_bits, front}
 use Rattle.loes.specs.Entry.{Entry, key_bytes, keys_of, count, edges_of, edge_count, Valid}
 use Rattle.loes.specs.Refusals.{short_buffer, bad_cursor, test, first_of}
-use Rattle.loes.specs.Model.{Answer, refused, wrote_key}
-use Rattle.loes.specs.Cursor as spec
+use Rattle.loes.specs.Model.{refused, wrote_key}
 use Rattle.loes.specs.Cursor.{Cursor, cursor_with, Advanced, before, at, after, padded, path_of, offsets_right, is_cursor_of, key_of_path, next_index, has_next, stays, stays_or, advance_tests, advance, has_path}
 use Rattle.loes.proofs.Tests.{lt_yes, both}
 use Rattle.loes.proofs.Tree.{length_members, count_none}
@@ -24,10 +23,6 @@ use Rattle.cursor.specs.Steps.{state_of}
 use Rattle.cursor.specs.Moves.{TurnsAt, Moved, Movable}
 use Rattle.cursor.proofs.Onward.{index_in, set_edges, next_none, next_some, movable, next_path}
 use Rattle.cursor.proofs.Outset.{first_some}
-
-pub positive : (n : ℕ) → (n ≡ 0 → ⊥) → 0 < n
-positive zero h = absurd (h refl)
-positive (suc n) h = omega arith
 
 -- a path of one more level or as many in front of another, with zeros behind
 drop_zeros : (k n : ℕ) → drop {A = ℕ} k (replicate n 0) ≡ replicate (n - k) 0
@@ -175,8 +170,3 @@ state_right e s s' os h q = rw h at q
 
 pub step_in : (e : Entry) (s s' : State) (os : List ℕ) (out : Bytes) (a : Advanced) → s ≡ s' → a ≡ advance e (cursor_with (state_of s') os) out → a ≡ advance e (cursor_with (state_of s) os) out
 step_in e s s' os out a h q = rw h q
-
--- ---- By value: the cursor of the state and the offsets
-pub by_value : (e : Entry) (s : spec.State) (os os₀ : List ℕ) (a : Answer) (out out' : Bytes) (k k' : Cursor) → k ≡ k' → os ≡ os₀ → record { answer = a; buffer = out'; cursor = k' } ≡ advance e (cursor_with s os) out
-    → record { answer = a; buffer = out'; cursor = k } ≡ advance e (cursor_with s os₀) out
-by_value e s os os₀ a out out' k k' h z q = rw (h, ← z) q

@@ -49,9 +49,6 @@ module _ {at m : ℕ} {s d d1 : Bytes} (p : Puts at s d m d1) where
   pub puts_length : length d1 ≡ length d
   puts_length = let r : m ≤ length d = omega (arith, p.room, p.ends) in ap length is ∙ length-append head (drop m d) ∙ omega (arith, long, length-drop m d)
 
-  pub puts_within : m ≤ length d1
-  puts_within = omega (arith, p.room, p.ends, puts_length)
-
   -- another text behind it
   pub puts_then : {r : ℕ} {t d2 : Bytes} → Puts m t d1 r d2 → Puts at (s ++ t) d r d2
   unfolding with_text

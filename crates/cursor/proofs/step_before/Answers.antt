@@ -8,7 +8,7 @@ use Rattle.loes.specs.Read.{entry_in}
 use Rattle.encoding.proofs.Opened.{opens_valid, opens_room}
 use Rattle.query.proofs.Ascent.{path_long}
 use Rattle.cursor.proofs.Outset.{first_some}
-use Rattle.cursor.proofs.Stepping.{positive, before_none, before_short, before_first}
+use Rattle.cursor.proofs.Stepping.{before_none, before_short, before_first}
 use Rattle.encoding.specs.Opened.{Opens}
 use Rattle.loes.specs.Bytes.{Bytes}
 use Rattle.encoding.specs.declared.Encoding.{Encoding}
@@ -16,7 +16,7 @@ use Rattle.cursor.proofs.step_before.Goals as goal
 
 -- some edges, as numbers and as the entry has them
 some_edges : (l : Bytes) (e : Encoding) → Opens l e → (e.bits ≡ 0 → ⊥) → 0 < edge_count (entry_in l)
-some_edges l e o h = let z = positive _ h in omega (arith, z, o.bits)
+some_edges l e o h = omega (arith, h, o.bits)
 
 pub returns-then-o-eq0 : goal.returns-then-o-eq0
 returns-then-o-eq0 c = before_none _ (opens_valid _ _ c.args.o.opens) _ c.requires _ (sym c.args.o.opens.bits ∙ c.if-o-eq0.true)
@@ -30,7 +30,7 @@ returns-then-out-bytes_for c = before_short _ (opens_valid _ _ c.args.o.opens) _
 
 pub first_path-requires : goal.first_path-requires
 first_path-requires c = let z = ap length c.requires ∙ length-replicate {A = ℕ} 256 0 in
-    (positive _ c.if-o-eq0.false, omega (arith, z, (opens_room _ _ c.args.o.opens).narrow))
+    (omega arith, omega (arith, z, (opens_room _ _ c.args.o.opens).narrow))
 
 pub write_key-requires : goal.write_key-requires
 unfolding key_bytes started

@@ -5,7 +5,6 @@ use Rattle.loes.specs.Bytes.{started}
 use Rattle.loes.specs.Entry.{key_bytes}
 use Rattle.loes.specs.Read.{entry_in}
 use Rattle.encoding.proofs.Opened.{opens_valid, opens_room}
-use Rattle.cursor.proofs.Stepping.{positive}
 use Rattle.cursor.proofs.Filling.{WalkSoFar, walk_start, walk_full, walk_more, walk_last}
 use borrow.Rule.Slice.PartMut.{put_mid}
 use Rattle.cursor.proofs.steps_on.Goals as goal
@@ -36,7 +35,7 @@ pub overflow_add-at : goal.overflow_add-at
 overflow_add-at c = let w = on (goal.at.overflow_add-at c).Else-n-eq0 in omega (arith, w.inside, w.size)
 
 pub loop-out-smaller : goal.loop-out-smaller
-loop-out-smaller c = let w = on (goal.at.loop-out-smaller c).Else-n-eq0 in omega (arith, w.inside, w.size, positive _ c.if-n-eq0.false)
+loop-out-smaller c = let w = on (goal.at.loop-out-smaller c).Else-n-eq0 in omega (arith, w.inside, w.size)
 
 pub loop-out-preserved : goal.loop-out-preserved
 loop-out-preserved c = on (goal.at.loop-out-preserved c).Else-n-eq0
