@@ -23,6 +23,7 @@ use loes::Refusal;
 
 // ---- The descent
 // A descent on its way: the record of the key's prefix, or the one it would have, and whether that prefix is found.
+// No Option: the descent goes on from the record of a prefix that is not found, too.
 #[derive(Clone, Copy)]
 pub struct Spot {
     pub record: RecordIndex,
@@ -81,6 +82,7 @@ pub fn bad_key(m: usize, key: &[u8]) -> bool
 }
 
 // A key among the members: how many are smaller, and whether it is one.
+// No Option: `lower_bound` asks how many are smaller than a key that is no member, too.
 #[derive(Clone, Copy)]
 pub struct Position {
     pub below: MemberIndex,
@@ -109,7 +111,8 @@ struct SetBit {
     number: usize,
 }
 
-// The same bit by the byte that it is in, found byte by byte. No `for`: tried; the test of its end, which a search that ends by its count does not need, made `key_at` a sixth slower.
+// The same bit by the byte that it is in, found byte by byte.
+// No `for`: tried, to the end of the bytes and over eight of them; the tests of its end, which a search that ends by its count does not need, made `key_at` a tenth to a sixth slower.
 fn find_in_bytes(edges: &[u8], from: SetBit) -> SetBit
     requires { (length edges.now ≤ max_bytes) × (numbered edges.now from.byte from.number < ones (bits_in edges.now (8 * length edges.now))) }
     ensures { InByte edges.now (numbered edges.now from.byte from.number) result.byte result.number }
@@ -126,6 +129,7 @@ fn find_in_bytes(edges: &[u8], from: SetBit) -> SetBit
 }
 
 // The same, eight bytes at a time first, with no `for` either: the set bit has eight bytes behind its own.
+// No one function for both steps: it would take the count as a closure, with a contract of its own, and is no plainer.
 fn find_from(edges: &[u8], from: SetBit) -> SetBit
     requires { (length edges.now ≤ max_bytes) × (numbered edges.now from.byte from.number < ones (bits_in edges.now (8 * (length edges.now - 8)))) }
     ensures { InByte edges.now (numbered edges.now from.byte from.number) result.byte result.number }
@@ -182,7 +186,8 @@ fn begins_by(o: Opened<'_>, j: usize, k: usize) -> bool
     Encoding::SUB_BLOCK_BITS * j < o.encoding.bits && sub_block_start(o, j) <= k
 }
 
-// The last sub-block of a block with at most k set bits of the block before it, by halving: the entries are pairs of bytes, and no slice of numbers that `binary_search` takes.
+// The last sub-block of a block with at most k set bits of the block before it, by halving.
+// No `binary_search`: the entries are pairs of bytes in the encoding, and no slice of numbers.
 fn sub_block_of(o: Opened<'_>, block: usize, k: usize) -> usize
     requires { block_bits * block < o.encoding.bits }
     ensures { LastBy (edges_of (entry_in o.entry.bytes.now)) o.entry.encoding.bits block k result }
