@@ -4,7 +4,7 @@ use Rattle.printing.proofs.Lines.{refused_most}
 use Rattle.printing.proofs.print_refused.Goals as goal
 
 pub put_refused-n-requires : goal.put_refused-n-requires
-put_refused-n-requires g c = omega (arith, refused_most c.args.k (omega arith))
+put_refused-n-requires g c = omega (arith, refused_most (number_of c.args.refusal) (omega arith))
 
 pub write_refused-requires : goal.write_refused-requires
 write_refused-requires g c = (c.requires, puts_front c.put_refused-n.ensures)

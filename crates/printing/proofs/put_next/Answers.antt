@@ -31,38 +31,38 @@ module _ (l : Bytes) (e : Encoding) (o : Opens l e) where
   small i h = omega (arith, there i h, count_le (entry_in l) valid.positive, valid.few)
 
 pub bytes_for-k-requires : goal.bytes_for-k-requires
-bytes_for-k-requires c = let o = c.requires.0 in omega (arith, o.width, (valid _ _ o).narrow)
+bytes_for-k-requires c = let o = c.args.o.opens in omega (arith, o.width, (valid _ _ o).narrow)
 
 pub slice_bounds-key-end : goal.slice_bounds-key-end
-slice_bounds-key-end c = omega (arith, fits _ _ c.requires.0 _ c.bytes_for-k.ensures.0)
+slice_bounds-key-end c = omega (arith, fits _ _ c.args.o.opens _ c.bytes_for-k.ensures.0)
 
 pub slice_bounds-put_member-end : goal.slice_bounds-put_member-end
 slice_bounds-put_member-end c =
     let key = c.moved-stepped.new.key in
     let k = c.bytes_for-k.result in
-    let h : k ≤ length key = omega (arith, fits _ _ c.requires.0 _ c.bytes_for-k.ensures.0) in
+    let h : k ≤ length key = omega (arith, fits _ _ c.args.o.opens _ c.bytes_for-k.ensures.0) in
     sym (length-take-le k key h)
 
 pub put_member-length-requires : goal.put_member-length-requires
 put_member-length-requires c =
     let key = c.moved-stepped.new.key in
     let k = c.bytes_for-k.result in
-    let f : k ≤ 32 = fits _ _ c.requires.0 _ c.bytes_for-k.ensures.0 in
+    let f : k ≤ 32 = fits _ _ c.args.o.opens _ c.bytes_for-k.ensures.0 in
     let h : k ≤ length key = omega (arith, f) in
     let n : length (take k key) ≡ k = length-take-le k key h in
-    omega (arith, member_most c.args.p.index.0 (take k key) (small _ _ c.requires.0 _ c.requires.3) (omega (arith, n, f)), c.requires.4)
+    omega (arith, member_most c.args.p.index.0 (take k key) (small _ _ c.args.o.opens _ c.requires.1) (omega (arith, n, f)), c.requires.2)
 
 pub returns : goal.returns
 returns c =
-    let l = c.args.l.now in
-    let o = c.requires.0 in
+    let l = c.args.o.bytes.now in
+    let o = c.args.o.opens in
     let x = c.moved-stepped in
     let v = valid _ _ o in
-    let t = there _ _ o _ c.requires.3 in
+    let t = there _ _ o _ c.requires.1 in
     let key : take c.bytes_for-k.result x.new.key ≡ key_bytes_at (entry_in l) c.args.p.index.0 =
-    ap (λ n. take n x.new.key) (bytes _ _ o _ c.bytes_for-k.ensures.0) ∙ next_key (entry_in l) v c.args.p c.requires.2 t _ refl x.result x.new.key x.ensures in
+    ap (λ n. take n x.new.key) (bytes _ _ o _ c.bytes_for-k.ensures.0) ∙ next_key (entry_in l) v c.args.p c.requires.0 t _ refl x.result x.new.key x.ensures in
     record {
       index = refl;
       puts = rw key at c.put_member-length.ensures;
-      stands = next_stands (entry_in l) v c.args.p c.requires.2 t _ refl x.result x.new.key x.ensures _ refl refl;
+      stands = next_stands (entry_in l) v c.args.p c.requires.0 t _ refl x.result x.new.key x.ensures _ refl refl;
     }

@@ -5,10 +5,10 @@ use Rattle.printing.proofs.Lines.{length_refused}
 use Rattle.printing.proofs.put_refused.Goals as goal
 
 pub put_named-end-requires : goal.put_named-end-requires
-put_named-end-requires c = omega (arith, length_refused c.args.k)
+put_named-end-requires c = omega (arith, length_refused (number_of c.args.refusal))
 
 pub put-requires : goal.put-requires
-put-requires c = omega (arith, length_refused c.args.k)
+put-requires c = omega (arith, length_refused (number_of c.args.refusal))
 
 pub returns : goal.returns
 unfolding refused_line
