@@ -1,5 +1,7 @@
 -- What the writer is given and what it answers.
-use Rattle.std.specs.Prelude.{◌≡◌, ℕ, ◌≤◌, ◌<◌, List, [], ◌∷◌, ◌++◌, length, get_or, take, drop}
+use Rattle.std.specs.Prelude.{◌≡◌, ℕ, ◌≤◌, ◌<◌, List, [], ◌∷◌, ◌++◌, length, get_or, take, drop, Result, Ok, Err}
+use Rattle.loes.specs.Numbers.{number_of}
+use Rattle.loes.specs.declared.refusal.Refusal.{Refusal}
 use Rattle.loes.specs.Limits.{block_bits, sub_block_bits, length_bytes, width_bytes, count_bytes, level_entry, block_entry, sub_block_entry}
 use Rattle.loes.specs.Bytes.{Bytes, started, big_endian, big_endians, pack_bits, bits_in}
 use Rattle.loes.specs.Entry.{count}
@@ -7,8 +9,6 @@ use Rattle.loes.specs.Encode.{field, level_end, block_ones, sub_block_ones}
 use Rattle.loes.specs.Read.{edge_bytes, body_at, start4}
 use Rattle.loes.specs.Held.{entry_held, Holds}
 use Rattle.loes.specs.Model.{refused, wrote, Outcome, writing}
-use Rattle.build.specs.declared.Written.{Written}
-use Rattle.build.specs.declared.Written.TheVariants as written
 
 -- edge bytes that hold an entry, and nothing besides its edges: no byte behind them, left-over bits zero
 pub record HoldsOnly (m b : ℕ) (l : Bytes) : Type 0 where
@@ -38,6 +38,6 @@ indexed b l =
     ++ field 6 (big_endians sub_block_entry (sub_block_ones (bits_in l b)) (started sub_block_bits b))
 
 -- what the writer's answer says, with the buffer at exit
-unfoldable pub written_outcome : Written → Bytes → Outcome
-written_outcome (written.Refused k) out = writing (refused k) out
-written_outcome (written.Length n) out = writing (wrote (n ∷ [])) out
+unfoldable pub written_outcome : Result ℕ Refusal → Bytes → Outcome
+written_outcome (Err k) out = writing (refused (number_of k)) out
+written_outcome (Ok n) out = writing (wrote (n ∷ [])) out

@@ -10,13 +10,13 @@ ghost use Rattle.loes.specs.Encode.{field, block_ones, sub_block_ones, encode};
 ghost use Rattle.loes.specs.Held.{entry_held, Holds};
 ghost use Rattle.loes.specs.Model.{writes};
 ghost use Rattle.loes.specs.Read.{level_bytes, edge_bytes, block_bytes, sub_block_bytes, body_at, start3, start4, end_of};
-ghost use Rattle.bits.specs.Tables.{Tallies};
 ghost use Rattle.build.specs.Writing.{HoldsOnly, standing, Shaped, shape, indexed, written_outcome};
 
 mod seen;
 
 use bits::EdgeOffset;
 use encoding::Encoding;
+use loes::Refusal;
 use seen::Seen;
 
 // A number in K bytes at the front of a buffer, most significant byte first.
@@ -50,8 +50,8 @@ fn put_numbers<const K: usize>(out: &mut [u8], tag: u8, numbers: &[usize])
 
 // ---- Counting
 // Where each level ends; returns the number of members.
-fn level_ends(edges: &[u8], t: &[u8], b: usize, ends: &mut [usize]) -> usize
-    requires { Holds (length ends.old) b edges.now × Tallies t.now × (length edges.now ≤ max_edges / 8) }
+fn level_ends(edges: &[u8], b: usize, ends: &mut [usize]) -> usize
+    requires { Holds (length ends.old) b edges.now × (length edges.now ≤ max_edges / 8) }
     ensures { Shaped (length ends.old) b edges.now ends.new result }
 {
     let c = encoding::roots_of(b);
@@ -60,18 +60,18 @@ fn level_ends(edges: &[u8], t: &[u8], b: usize, ends: &mut [usize]) -> usize
     for place in ends.iter_mut() {
         let end = 2 * (c + n);
         *place = end;
-        seen = seen.count_to(t, end / 8);
-        n = seen.ones_at(t, EdgeOffset(end));
+        seen = seen.count_to(end / 8);
+        n = seen.ones_at(EdgeOffset(end));
     }
     c + n - b / 2
 }
 
 // The members alone, of sets of whatever width: the set bits of all edges less the records that they lead to.
-pub fn members_of(m: usize, b: usize, edges: &[u8], t: &[u8]) -> usize
-    requires { Holds m b edges.now × Tallies t.now × (length edges.now ≤ max_edges / 8) }
+pub fn members_of(m: usize, b: usize, edges: &[u8]) -> usize
+    requires { Holds m b edges.now × (length edges.now ≤ max_edges / 8) }
     ensures { result ≡ count (entry_held m b edges.now) }
 {
-    let n = Seen::none(edges).count_to(t, b / 8).ones_at(t, EdgeOffset(b));
+    let n = Seen::none(edges).count_to(b / 8).ones_at(EdgeOffset(b));
     encoding::roots_of(b) + n - b / 2
 }
 
@@ -89,15 +89,15 @@ fn put_shape(out: &mut [u8], b: usize, n: usize, ends: &[usize])
 }
 
 // The bodies of fields 5 and 6: for each started block of the edges the set bits before it, and for each started sub-block those of its block before it. A block's are written again at each of its sub-blocks.
-fn put_counts(edges: &[u8], t: &[u8], b: usize, blocks: &mut [u8], sub_blocks: &mut [u8])
-    requires { (length edges.now ≡ edge_bytes b) × (b ≤ max_edges) × (block_bytes b ≤ length blocks.old) × (sub_block_bytes b ≤ length sub_blocks.old) × Tallies t.now }
+fn put_counts(edges: &[u8], b: usize, blocks: &mut [u8], sub_blocks: &mut [u8])
+    requires { (length edges.now ≡ edge_bytes b) × (b ≤ max_edges) × (block_bytes b ≤ length blocks.old) × (sub_block_bytes b ≤ length sub_blocks.old) }
     ensures of_blocks { blocks.new ≡ front (big_endians block_entry (block_ones (bits_in edges.now b)) (started block_bits b)) blocks.old }
     ensures of_sub_blocks { sub_blocks.new ≡ front (big_endians sub_block_entry (sub_block_ones (bits_in edges.now b)) (started sub_block_bits b)) sub_blocks.old }
 {
     let mut seen = Seen::none(edges);
     let mut base = 0;
     for j in 0..bits::started_by(b, Encoding::SUB_BLOCK_BITS) {
-        seen = seen.count_to(t, Encoding::SUB_BLOCK_BYTES * j);
+        seen = seen.count_to(Encoding::SUB_BLOCK_BYTES * j);
         base = encoding::block_base(j, base, seen.ones);
         let at = Encoding::BLOCK_ENTRY * (j / Encoding::SUB_BLOCKS);
         put::<{ Encoding::BLOCK_ENTRY }>(&mut blocks[at..], base);
@@ -107,8 +107,8 @@ fn put_counts(edges: &[u8], t: &[u8], b: usize, blocks: &mut [u8], sub_blocks: &
 }
 
 // Fields 5 and 6 behind the edges, with which the buffer begins.
-fn put_index(out: &mut [u8], t: &[u8], b: usize)
-    requires { (edge_bytes b + head_bytes + block_bytes b + head_bytes + sub_block_bytes b ≤ length out.old) × (b ≤ max_edges) × Tallies t.now }
+fn put_index(out: &mut [u8], b: usize)
+    requires { (edge_bytes b + head_bytes + block_bytes b + head_bytes + sub_block_bytes b ≤ length out.old) × (b ≤ max_edges) }
     ensures { out.new ≡ front (indexed b (take (edge_bytes b) out.old)) out.old }
 {
     let blocks = Encoding::BLOCK_ENTRY * bits::started_by(b, Encoding::BLOCK_BITS);
@@ -117,7 +117,12 @@ fn put_index(out: &mut [u8], t: &[u8], b: usize)
     let (field5, field6) = index.split_at_mut(Encoding::HEAD_BYTES + blocks);
     put_head(field5, 5, blocks);
     put_head(field6, 6, sub_blocks);
-    put_counts(edges, t, b, &mut field5[Encoding::HEAD_BYTES..], &mut field6[Encoding::HEAD_BYTES..]);
+    put_counts(
+        edges,
+        b,
+        &mut field5[Encoding::HEAD_BYTES..],
+        &mut field6[Encoding::HEAD_BYTES..],
+    );
 }
 
 // ---- The length
@@ -148,44 +153,37 @@ pub fn too_short(m: usize, b: usize, room: usize) -> bool
 }
 
 // ---- The writer
-// The length of what was written, or the refusal.
-#[derive(Clone, Copy)]
-pub enum Written {
-    Refused(u8),
-    Length(usize),
-}
-
 // The encoding of the entry that edge bytes hold, at the front of a buffer in which they stand in their place already: every other field, around them.
-pub fn write_around_edges(m: usize, b: usize, t: &[u8], out: &mut [u8])
-    requires { (end_of m b ≤ length out.old) × HoldsOnly m b (standing m b out.old) × Tallies t.now }
+pub fn write_around_edges(m: usize, b: usize, out: &mut [u8])
+    requires { (end_of m b ≤ length out.old) × HoldsOnly m b (standing m b out.old) }
     ensures { out.new ≡ front (encode (entry_held m b (standing m b out.old))) out.old }
 {
     let (before, rest) = out.split_at_mut(edges_start(m));
     let mut room = [0usize; Encoding::MAX_WIDTH];
     let ends = &mut room[..m];
-    let count = level_ends(&rest[..bits::bytes_for(b)], t, b, ends);
+    let count = level_ends(&rest[..bits::bytes_for(b)], b, ends);
     put_shape(before, b, count, ends);
-    put_index(rest, t, b);
+    put_index(rest, b);
 }
 
 // The same from edge bytes elsewhere, which are put in their place first.
-pub fn write_fitting(m: usize, b: usize, edges: &[u8], t: &[u8], out: &mut [u8])
-    requires { (end_of m b ≤ length out.old) × HoldsOnly m b edges.now × Tallies t.now }
+pub fn write_fitting(m: usize, b: usize, edges: &[u8], out: &mut [u8])
+    requires { (end_of m b ≤ length out.old) × HoldsOnly m b edges.now }
     ensures { out.new ≡ front (encode (entry_held m b edges.now)) out.old }
 {
     let at = edges_start(m);
     out[at..at + edges.len()].copy_from_slice(edges);
-    write_around_edges(m, b, t, out);
+    write_around_edges(m, b, out);
 }
 
 // The same if it fits: nothing is written before that is known.
-pub fn write(m: usize, b: usize, edges: &[u8], t: &[u8], out: &mut [u8]) -> Written
-    requires { HoldsOnly m b edges.now × Tallies t.now }
+pub fn write(m: usize, b: usize, edges: &[u8], out: &mut [u8]) -> Result<usize, Refusal>
+    requires { HoldsOnly m b edges.now }
     ensures { written_outcome result out.new ≡ (writes [] (entry_held m b edges.now ∷ []) (out.old ∷ [])).outcome }
 {
     if too_short(m, b, out.len()) {
-        return Written::Refused(loes::refusal::SHORT_BUFFER);
+        return Err(Refusal::ShortBuffer);
     }
-    write_fitting(m, b, edges, t, out);
-    Written::Length(length_of(m, b))
+    write_fitting(m, b, edges, out);
+    Ok(length_of(m, b))
 }

@@ -3,7 +3,6 @@ ghost use Rattle.std.specs.Prelude.{◌+◌, ◌*◌, ◌/◌, ◌<◌, ◌≤�
 ghost use Rattle.loes.specs.Limits.{max_edges};
 ghost use Rattle.loes.specs.Bytes.{bits_in};
 ghost use Rattle.loes.specs.Edges.{ones as set_bits};
-ghost use Rattle.bits.specs.Tables.{Tallies};
 
 use bits::EdgeOffset;
 
@@ -48,21 +47,21 @@ impl<'a> Seen<'a> {
     }
 
     // Counts on, to the first `upto` bytes.
-    pub fn count_to(self, t: &[u8], upto: usize) -> Seen<'a>
-        requires { (self.bytes ≤ upto) × (upto ≤ length self.edges.now) × Tallies t.now }
+    pub fn count_to(self, upto: usize) -> Seen<'a>
+        requires { (self.bytes ≤ upto) × (upto ≤ length self.edges.now) }
         ensures { (result.edges.now ≡ self.entry.edges.now) × (result.bytes ≡ upto) }
     {
         let words = self.by_words(upto);
         Seen {
             edges: self.edges,
             bytes: upto,
-            ones: words.ones + bits::tally_bytes(self.edges, t, words.bytes, upto),
+            ones: words.ones + bits::tally_bytes(self.edges, words.bytes, upto),
         }
     }
 
     // The set bits before an offset in the byte behind them.
-    pub fn ones_at(self, t: &[u8], o: EdgeOffset) -> usize
-        requires { (self.bytes ≡ o.0 / 8) × (o.0 ≤ 8 * length self.edges.now) × Tallies t.now }
+    pub fn ones_at(self, o: EdgeOffset) -> usize
+        requires { (self.bytes ≡ o.0 / 8) × (o.0 ≤ 8 * length self.edges.now) }
         ensures { result ≡ set_bits (bits_in self.entry.edges.now o.0) }
     {
         let n = o.0;
@@ -70,6 +69,6 @@ impl<'a> Seen<'a> {
         if k == 0 {
             return self.ones;
         }
-        self.ones + bits::tally_part(self.edges, t, n / 8, k)
+        self.ones + bits::tally_part(self.edges, n / 8, k)
     }
 }

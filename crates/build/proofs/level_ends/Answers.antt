@@ -36,12 +36,12 @@ overflow_mul-end c =
 pub count_to-seen-requires : goal.count_to-seen-requires
 count_to-seen-requires c =
     let e = next (length c.args.ends.now) c.args.b c.args.edges.now c.loop-place.place-index c.roots_of-c.result c.loop-place.n c.requires.0 (omega arith) c.roots_of-c.ensures.0 c.loop-place.invariant.rank in
-    (omega (arith, c.loop-place.invariant.seen), omega (arith, c.requires.0.room, ap length c.loop-place.invariant.same), c.requires.1)
+    (omega (arith, c.loop-place.invariant.seen), omega (arith, c.requires.0.room, ap length c.loop-place.invariant.same))
 
 pub ones_at-n-requires : goal.ones_at-n-requires
 ones_at-n-requires c =
     let e = next (length c.args.ends.now) c.args.b c.args.edges.now c.loop-place.place-index c.roots_of-c.result c.loop-place.n c.requires.0 (omega arith) c.roots_of-c.ensures.0 c.loop-place.invariant.rank in
-    (c.count_to-seen.ensures.1, omega (arith, c.requires.0.room, ap length (c.count_to-seen.ensures.0 ∙ c.loop-place.invariant.same)), c.requires.1)
+    (c.count_to-seen.ensures.1, omega (arith, c.requires.0.room, ap length (c.count_to-seen.ensures.0 ∙ c.loop-place.invariant.same)))
 
 pub loop-place-preserved : goal.loop-place-preserved
 loop-place-preserved c =
@@ -58,8 +58,8 @@ loop-place-preserved c =
       seen = rw more (c.count_to-seen.ensures.1 ∙ ap (λ k. k / 8) e.0);
       rank = rw more n;
       written =
-        below_more _ _ (λ j h. get_or-set_other c.loop-place.ends d j (2 * (c.roots_of-c.result + c.loop-place.n)) 0 (λ z. absurd (omega (arith, z))) ∙ c.loop-place.invariant.written j h)
-        (get_or-set_same c.loop-place.ends d (2 * (c.roots_of-c.result + c.loop-place.n)) 0 (omega arith) ∙ e.0);
+          below_more _ _ (λ j h. get_or-set_other c.loop-place.ends d j (2 * (c.roots_of-c.result + c.loop-place.n)) 0 (λ z. absurd (omega (arith, z))) ∙ c.loop-place.invariant.written j h)
+          (get_or-set_same c.loop-place.ends d (2 * (c.roots_of-c.result + c.loop-place.n)) 0 (omega arith) ∙ e.0);
     }
 
 pub overflow_add-result : goal.overflow_add-result

@@ -26,7 +26,7 @@ counts l x b j bytes n base old same q at h given known =
       elim (dec_le (j % 128) 0) [
         | yes z ↦ let y : j % 128 ≡ 0 = omega arith in given.0 y ∙ r ∙ first_sub e j y
         | no z ↦ let y : j % 128 ≡ 0 → ⊥ = λ w. absurd (omega (arith, w)) in given.1 y ∙ known y
-      ]
+      ],
     )
 
 next_block : (j : ℕ) → ((j + 1) % 128 ≡ 0 → ⊥) → (j + 1) / 128 ≡ j / 128
@@ -42,8 +42,8 @@ blocks_more f j x xs zs ys v room long done e =
     elim (dec_le (j % 128) 0) [
       | yes z ↦ let before : (j + 127) / 128 ≡ k = omega arith in rw after (numbers_more [] xs zs ys 8 f k (8 * k) (omega arith) (rw before at done) room x v e)
       | no z ↦ let before : (j + 127) / 128 ≡ k + 1 = omega arith in
-        let again : zs ≡ front (big_endians 8 f (k + 1)) xs = rw before at done in
-        rw after (numbers_again xs zs ys 8 f k (8 * k) refl (omega arith) again (e ∙ ap (λ y. front (big_endian 8 y) (take (length zs - 8 * k) (drop (8 * k) zs))) v) ∙ again)
+          let again : zs ≡ front (big_endians 8 f (k + 1)) xs = rw before at done in
+          rw after (numbers_again xs zs ys 8 f k (8 * k) refl (omega arith) again (e ∙ ap (λ y. front (big_endian 8 y) (take (length zs - 8 * k) (drop (8 * k) zs))) v) ∙ again)
     ]
 
 pub none-seen-requires : goal.none-seen-requires
@@ -57,7 +57,7 @@ loop-j-init c = record { same = c.none-seen.ensures.0; near = omega arith; base 
 pub count_to-seen-requires : goal.count_to-seen-requires
 count_to-seen-requires c =
     let h = there c.args.b c.loop-j.j (omega arith) (omega arith) in
-    (omega arith, omega (arith, ap length c.loop-j.invariant.same), c.requires.4)
+    (omega arith, omega (arith, ap length c.loop-j.invariant.same))
 
 pub slice_bounds-put-count : goal.slice_bounds-put-count
 slice_bounds-put-count c =

@@ -20,13 +20,13 @@ pub returns-then-too_short : goal.returns-then-too_short
 unfolding written_outcome refusal
 returns-then-too_short c =
     let e = entry_held c.args.m c.args.b c.args.edges.now in
-    let s = sizes c.args.m c.args.b c.args.edges.now c.requires.0 in
+    let s = sizes c.args.m c.args.b c.args.edges.now c.requires in
     ap (λ x. x.outcome) (sym (writes_short e c.args.out.now s.0 (omega (arith, ltb-true (length c.args.out.now) (end_of c.args.m c.args.b) (sym c.if-too_short.ensures)))))
 
 pub returns : goal.returns
 unfolding written_outcome refusal
 returns c =
     let e = entry_held c.args.m c.args.b c.args.edges.now in
-    let s = sizes c.args.m c.args.b c.args.edges.now c.requires.0 in
+    let s = sizes c.args.m c.args.b c.args.edges.now c.requires in
     let room = ltb-false (length c.args.out.now) (end_of c.args.m c.args.b) (sym c.too_short.ensures ∙ c.if-too_short.false) in
     ap₂ (λ n x. record { answer = wrote (n ∷ []); buffers = x ∷ [] }) (c.length_of.ensures ∙ sym s.1) c.write_fitting.ensures ∙ sym (writes_fits e c.args.out.now s.0 (omega (arith, room)))

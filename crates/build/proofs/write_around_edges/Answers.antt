@@ -1,7 +1,6 @@
 use Rattle.std.proofs.Common.{◌≡◌, ℕ, ◌/◌, ◌≤◌, List, length, take, drop, length-take, sym, ap, ap₂, ◌∙◌, arith}
 use lib.Seq.{length-take-le}
 use Rattle.loes.specs.Limits.{max_edges}
-use Rattle.bits.specs.Tables.{Tallies}
 use Rattle.loes.specs.Bytes.{Bytes, front}
 use Rattle.loes.specs.Read.{edge_bytes, body_at, start4, start5, start6, end_of}
 use Rattle.loes.specs.Held.{Holds}
@@ -20,9 +19,9 @@ pub split_at_mut-before-requires : goal.split_at_mut-before-requires
 split_at_mut-before-requires c = omega (arith, edges_end c.args.m c.args.b)
 
 -- what the first pass is lent
-lent : (m b len : ℕ) (room : List ℕ) (l xs ys t : Bytes) → m ≤ length room → HoldsOnly m b l → take len ys ≡ l → Tallies t
-    → Holds (length (take m room)) b (take len ys) × Tallies t × (length (take len ys) ≤ max_edges / 8)
-lent m b len room l xs ys t h s e tallies = rw (e, length-take-le m room h) (s.holds, tallies, sealed_small m b l s)
+lent : (m b len : ℕ) (room : List ℕ) (l xs ys : Bytes) → m ≤ length room → HoldsOnly m b l → take len ys ≡ l
+    → Holds (length (take m room)) b (take len ys) × (length (take len ys) ≤ max_edges / 8)
+lent m b len room l xs ys h s e = rw (e, length-take-le m room h) (s.holds, sealed_small m b l s)
 
 pub slice_bounds-level_ends-end : goal.slice_bounds-level_ends-end
 slice_bounds-level_ends-end c = omega (arith, edges_end c.args.m c.args.b, c.split_at_mut-before.ensures.back_len)
@@ -33,7 +32,7 @@ slice_bounds-level_ends-end-2 c = omega (arith, edges_end c.args.m c.args.b, c.s
 pub level_ends-count-requires : goal.level_ends-count-requires
 level_ends-count-requires c =
     let there = stand c.args.m c.args.b c.edges_start.result c.bytes_for.result c.args.out.now c.split_at_mut-before.result.1.now c.edges_start.ensures c.bytes_for.ensures.0 c.split_at_mut-before.ensures.back in
-    lent c.args.m c.args.b c.bytes_for.result _ (standing c.args.m c.args.b c.args.out.now) c.args.out.now c.split_at_mut-before.result.1.now c.args.t.now (omega (arith, c.requires.1.holds.narrow)) c.requires.1 there c.requires.2
+    lent c.args.m c.args.b c.bytes_for.result _ (standing c.args.m c.args.b c.args.out.now) c.args.out.now c.split_at_mut-before.result.1.now (omega (arith, c.requires.1.holds.narrow)) c.requires.1 there
 
 pub put_shape-requires : goal.put_shape-requires
 unfolding start4
@@ -43,7 +42,7 @@ put_shape-requires c =
 
 pub put_index-requires : goal.put_index-requires
 unfolding end_of start6 start5
-put_index-requires c = (omega (arith, c.split_at_mut-before.ensures.back_len), c.requires.1.holds.few, c.requires.2)
+put_index-requires c = (omega (arith, c.split_at_mut-before.ensures.back_len), c.requires.1.holds.few)
 
 -- and what it answers, of the edges that stand there
 known : (m b len n : ℕ) (room ends l ys : List ℕ) → m ≤ length room → take len ys ≡ l → Shaped (length (take m room)) b (take len ys) ends n → Shaped m b l ends n

@@ -45,7 +45,7 @@ write_around_edges-requires c =
     let k : ℕ = at + length l - at in
     let h = same c.args.m c.args.b at k l c.args.out.now c.copy_from_slice.new.self c.edges_start-at.ensures c.requires.1 c.requires.0 refl c.copy_from_slice.ensures.after in
     let e = there c.args.m c.args.b at k l c.args.out.now c.copy_from_slice.new.self c.edges_start-at.ensures c.requires.1 c.requires.0 refl c.copy_from_slice.ensures.after in
-    (omega (arith, h), rw e c.requires.1, c.requires.2)
+    (omega (arith, h), rw e c.requires.1)
 
 pub returns : goal.returns
 returns c =
