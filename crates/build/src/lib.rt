@@ -10,12 +10,14 @@ ghost use Rattle.loes.specs.Encode.{field, block_ones, sub_block_ones, encode};
 ghost use Rattle.loes.specs.Held.{entry_held, Holds};
 ghost use Rattle.loes.specs.Model.{writes};
 ghost use Rattle.loes.specs.Read.{level_bytes, edge_bytes, block_bytes, sub_block_bytes, body_at, start3, start4, end_of};
+ghost use Rattle.encoding.specs.Fields.{tag_of};
 ghost use Rattle.build.specs.Writing.{HoldsOnly, standing, Shaped, shape, indexed, written_outcome};
 
 mod seen;
 
 use bits::EdgeOffset;
 use encoding::Encoding;
+use encoding::field::Field;
 use loes::Refusal;
 use seen::Seen;
 
@@ -28,21 +30,21 @@ fn put<const K: usize>(out: &mut [u8], n: usize)
     out[..K].copy_from_slice(&bytes[8 - K..]);
 }
 
-// A field's tag and length.
-fn put_head(out: &mut [u8], tag: u8, n: usize)
+// A field's head: its tag, and the length of its body.
+fn put_head(out: &mut [u8], kind: Field, n: usize)
     requires { head_bytes ≤ length out.old }
-    ensures { out.new ≡ front (tag ∷ big_endian length_bytes n) out.old }
+    ensures { out.new ≡ front (tag_of kind ∷ big_endian length_bytes n) out.old }
 {
-    out[0] = tag;
+    out[0] = kind.tag();
     put::<{ Encoding::LENGTH_BYTES }>(&mut out[Encoding::TAG_BYTES..], n);
 }
 
 // A field of numbers, K bytes each: its head, and they behind it one after another.
-fn put_numbers<const K: usize>(out: &mut [u8], tag: u8, numbers: &[usize])
+fn put_numbers<const K: usize>(out: &mut [u8], kind: Field, numbers: &[usize])
     requires { (K ≤ 8) × (head_bytes + K * length numbers.now ≤ length out.old) }
-    ensures { out.new ≡ front (field tag (big_endians K (λ (j : ℕ). get_or numbers.now j 0) (length numbers.now))) out.old }
+    ensures { out.new ≡ front (field (tag_of kind) (big_endians K (λ (j : ℕ). get_or numbers.now j 0) (length numbers.now))) out.old }
 {
-    put_head(out, tag, K * numbers.len());
+    put_head(out, kind, K * numbers.len());
     for (j, &n) in numbers.iter().enumerate() {
         put::<K>(&mut out[Encoding::HEAD_BYTES + K * j..], n);
     }
@@ -81,11 +83,11 @@ fn put_shape(out: &mut [u8], b: usize, n: usize, ends: &[usize])
     requires { (body_at start3 + level_bytes (length ends.now) + head_bytes ≤ length out.old) × (length ends.now ≤ max_width) × (b ≤ max_edges) }
     ensures { out.new ≡ front (shape b n ends.now) out.old }
 {
-    put_numbers::<{ Encoding::WIDTH_BYTES }>(out, 1, &[ends.len()]);
-    put_numbers::<{ Encoding::COUNT_BYTES }>(&mut out[Encoding::START2..], 2, &[n]);
-    put_numbers::<{ Encoding::LEVEL_ENTRY }>(&mut out[Encoding::START3..], 3, ends);
+    put_numbers::<{ Encoding::WIDTH_BYTES }>(out, Field::Width, &[ends.len()]);
+    put_numbers::<{ Encoding::COUNT_BYTES }>(&mut out[Encoding::START2..], Field::Count, &[n]);
+    put_numbers::<{ Encoding::LEVEL_ENTRY }>(&mut out[Encoding::START3..], Field::Levels, ends);
     let field4 = Encoding::LEVELS_AT + Encoding::LEVEL_ENTRY * ends.len();
-    put_head(&mut out[field4..], 4, bits::bytes_for(b));
+    put_head(&mut out[field4..], Field::Edges, bits::bytes_for(b));
 }
 
 // The bodies of fields 5 and 6: for each started block of the edges the set bits before it, and for each started sub-block those of its block before it. A block's are written again at each of its sub-blocks.
@@ -115,8 +117,8 @@ fn put_index(out: &mut [u8], b: usize)
     let sub_blocks = Encoding::SUB_BLOCK_ENTRY * bits::started_by(b, Encoding::SUB_BLOCK_BITS);
     let (edges, index) = out.split_at_mut(bits::bytes_for(b));
     let (field5, field6) = index.split_at_mut(Encoding::HEAD_BYTES + blocks);
-    put_head(field5, 5, blocks);
-    put_head(field6, 6, sub_blocks);
+    put_head(field5, Field::Blocks, blocks);
+    put_head(field6, Field::SubBlocks, sub_blocks);
     put_counts(
         edges,
         b,
