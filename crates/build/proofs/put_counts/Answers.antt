@@ -101,6 +101,3 @@ loop-j-preserved c =
 pub returns-clause-of_blocks : goal.returns-clause-of_blocks
 unfolding started
 returns-clause-of_blocks c = let z : (c.loop-j.j + 127) / 128 ≡ started block_bits c.args.b = omega arith in rw z at c.loop-j.invariant.of_blocks
-
-pub returns-clause-of_sub_blocks : goal.returns-clause-of_sub_blocks
-returns-clause-of_sub_blocks c = let z : c.loop-j.j ≡ started sub_block_bits c.args.b = omega arith in rw z at c.loop-j.invariant.of_sub_blocks
