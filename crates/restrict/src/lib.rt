@@ -7,7 +7,7 @@ ghost use Rattle.loes.specs.Keys.{those};
 ghost use Rattle.loes.specs.Edges.{record_bits};
 ghost use Rattle.loes.specs.Held.{entry_held};
 ghost use Rattle.records.specs.Records.{empty_record, record_of_code, record_at, records_at, records_to, has_edge, children, Packed};
-ghost use Rattle.records.specs.Numbers.{records_of, bits_of, Short};
+ghost use Rattle.records.specs.Numbers.{records_of, bits_of};
 ghost use Rattle.records.specs.Tables.{spread, by_edge, kept_by};
 ghost use Rattle.records.specs.Kinds.{number_of_kept};
 ghost use Rattle.merge.specs.Union.{QueueRoom};
@@ -47,8 +47,8 @@ pub fn mark_byte(q: &[u8], tables: Tables<'_>, kept: Kept, x: u8, d: RecordIndex
 {
     let v = records::window(q, d);
     let n = count_edges(tables, x / 16);
-    let a = mark_half(tables, kept, records::wide(x / 16), records::four_in(v, 0));
-    let b = mark_half(tables, kept, records::wide(x % 16), records::four_in(v, n));
+    let a = mark_half(tables, kept, (x / 16) as usize, records::four_in(v, 0));
+    let b = mark_half(tables, kept, (x % 16) as usize, records::four_in(v, n));
     (a * 16 + b) as u8
 }
 
@@ -112,7 +112,7 @@ fn sixteen(l: &[u8], i: RecordIndex) -> usize
     ensures { (records_of 16 result ≡ records_at l.now i.0 16) × (result < 2 ^ 32) }
 {
     let at = i.0 / 4;
-    let x = records::block(l, at) * bits::BYTE + records::wide(l[at + 4]);
+    let x = records::block(l, at) * bits::BYTE + l[at + 4] as usize;
     (x << (24 + 2 * (i.0 % 4))) >> 32
 }
 
@@ -170,7 +170,12 @@ pub fn mark_singles(y: usize, z: &mut [u8], i: RecordIndex, d: RecordIndex)
     let at = i.0 / 4;
     let e = sixteen(z, d);
     let k = keep_singles(y, e);
-    z[at..at + 4].copy_from_slice(&(k as u32).to_be_bytes());
+    // written one by one: `copy_from_slice` compiles to a test whether the two overlap, and marking takes a sixth longer
+    let [first, second, third, fourth] = (k as u32).to_be_bytes();
+    z[at] = first;
+    z[at + 1] = second;
+    z[at + 2] = third;
+    z[at + 3] = fourth;
 }
 
 // ---- All records of a union
@@ -266,9 +271,9 @@ fn mark(tables: Option<Tables<'_>>, q: &mut [u8], r: RecordIndex, n: usize, memb
 
 // The records of two bytes that have an edge.
 fn bytes_run(edged: EdgedTable<'_>, x: u8, y: u8) -> Run
-    ensures { (records_of (result.bits / 2) result.records ≡ those has_edge (records_of 4 x ++ records_of 4 y)) × Short 8 result.records result.bits }
+    ensures { (records_of (result.bits / 2) result.records ≡ those has_edge (records_of 4 x ++ records_of 4 y)) × (result.bits ≤ 16) }
 {
-    records::run_and(edged.edged_at(x), edged.edged_at(y))
+    edged.edged_at(x).followed_by(edged.edged_at(y))
 }
 
 // The records of the four bytes from byte j of q on that have an edge, put behind the first k.
@@ -284,10 +289,9 @@ fn compact_block(
 {
     let h = bytes_run(edged, q[j], q[j + 1]);
     let g = bytes_run(edged, q[j + 2], q[j + 3]);
-    let c = records::run_and(h, g);
-    let n = c.bits / 2;
-    records::append(out, k, c);
-    RecordIndex(k.0 + n)
+    let run = h.followed_by(g);
+    records::append(out, k, run);
+    RecordIndex(k.0 + run.count())
 }
 
 // How many records were looked at, and how many of them have an edge.

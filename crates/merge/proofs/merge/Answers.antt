@@ -1,6 +1,8 @@
 use Prim.Native.Nat.{ℕ, ◌+◌, ◌*◌, ◌/◌, ◌≤◌}
-use mathlib.Core.Path.{◌≡◌, ap, ◌∙◌}
+use mathlib.Core.Path.{◌≡◌, refl, ap, ◌∙◌}
 use lib.Dec.{ltb}
+use mathlib.Core.Bool.{Bool, true, false}
+use Rattle.std.specs.Int.{from_bool}
 use Rattle.loes.specs.Bytes.{Bytes, bit}
 use Rattle.loes.specs.Prefixes.{inhabited}
 use Rattle.loes.specs.Held.{Holds}
@@ -9,6 +11,10 @@ use Rattle.merge.proofs.Held.{set_in, held_of, even, some_records}
 use Rattle.merge.proofs.Queue.{done_none, done_more, merged_done, end_le, level_room}
 use native.Mathlib.Omega.{arith}
 use Rattle.merge.proofs.merge.Goals as goal
+
+byte_bit : (b : Bool) → from_bool b ≡ bit b
+byte_bit true = refl
+byte_bit false = refl
 
 -- a set of so many edges has a root if it has any
 some : {m b : ℕ} {l : Bytes} → Holds m b l → bit (ltb 0 b) ≡ bit (inhabited m (set_in m b l))
@@ -23,7 +29,7 @@ same_width e h = rw e h
 pub loop-d-init : goal.loop-d-init
 loop-d-init c =
     let second = same_width c.requires.one_width c.args.b.holds in
-    done_none (c.root_flag.ensures.0 ∙ some c.args.a.holds) (c.root_flag-2.ensures.0 ∙ some second) c.push-t.ensures
+    done_none (c.from.ensures ∙ byte_bit (ltb 0 c.args.a.bits) ∙ some c.args.a.holds) (c.from-2.ensures ∙ byte_bit (ltb 0 c.args.b.bits) ∙ some second) c.push-t.ensures
 
 pub merge_level-at-requires : goal.merge_level-at-requires
 merge_level-at-requires c =
