@@ -1,0 +1,122 @@
+use mathlib.Core.Path.{sym, ap, ◌∙◌, subst}
+use Prim.Native.Nat.{◌*◌, ◌≤◌, ◌<◌}
+use native.Mathlib.Omega.{arith}
+use lib.ListN.{length}
+use Rattle.loes.specs.Model.{refusal}
+use Rattle.encoding.proofs.Opened.{opens_room}
+use Rattle.build.specs.Writing.{written_outcome}
+use Rattle.merge.specs.Union.{QueueRoom}
+use Rattle.join.specs.declared.Join.TheVariants as join
+use Rattle.join.specs.declared.Pair.TheVariants.{Opened}
+use Rattle.join.specs.Joining.{Both, join_of, join_call}
+use Rattle.join.proofs.Joins.{opens_short, opens_over, first_holds, second_holds, join_refused, joined, joined_call}
+use borrow.Author.Rules.{rules}
+use Rattle.join.proofs.join_with.Goals as goal
+
+pub slice_bounds-united-count : goal.slice_bounds-united-count
+slice_bounds-united-count c =
+    let both : Both c.args.a.now c.args.b.now (Opened c.in-Opened.e c.in-Opened.f) = subst (Both c.args.a.now c.args.b.now) c.in-Opened.is c.open_both-pair.ensures in
+    let first-room : c.in-Opened.e.edges ≤ length c.args.a.now = omega (arith, (opens_room c.args.a.now c.in-Opened.e both.0).edges) in
+    first-room
+
+pub slice_bounds-united-start : goal.slice_bounds-united-start
+slice_bounds-united-start c =
+    let both : Both c.args.a.now c.args.b.now (Opened c.in-Opened.e c.in-Opened.f) = subst (Both c.args.a.now c.args.b.now) c.in-Opened.is c.open_both-pair.ensures in
+    let first-room : c.in-Opened.e.edges ≤ length c.args.a.now = omega (arith, (opens_room c.args.a.now c.in-Opened.e both.0).edges) in
+    let z = first-room in search rules
+
+pub slice_bounds-united-count-in-Union : goal.slice_bounds-united-count-in-Union
+slice_bounds-united-count-in-Union c =
+    let both : Both c.args.a.now c.args.b.now (Opened c.in-Opened.e c.in-Opened.f) = subst (Both c.args.a.now c.args.b.now) c.in-Opened.is c.open_both-pair.ensures in
+    let second-room : c.in-Opened.f.edges ≤ length c.args.b.now = omega (arith, (opens_room c.args.b.now c.in-Opened.f both.1).edges) in
+    second-room
+
+pub slice_bounds-united-start-in-Union : goal.slice_bounds-united-start-in-Union
+slice_bounds-united-start-in-Union c =
+    let both : Both c.args.a.now c.args.b.now (Opened c.in-Opened.e c.in-Opened.f) = subst (Both c.args.a.now c.args.b.now) c.in-Opened.is c.open_both-pair.ensures in
+    let second-room : c.in-Opened.f.edges ≤ length c.args.b.now = omega (arith, (opens_room c.args.b.now c.in-Opened.f both.1).edges) in
+    let z = second-room in search rules
+
+pub united-k-requires : goal.united-k-requires
+united-k-requires c =
+    let both : Both c.args.a.now c.args.b.now (Opened c.in-Opened.e c.in-Opened.f) = subst (Both c.args.a.now c.args.b.now) c.in-Opened.is c.open_both-pair.ensures in
+    let rooms : QueueRoom c.in-Opened.e.bits c.in-Opened.f.bits c.args.q.now × (c.in-Opened.e.bits < 8 * length c.args.edges.now) = c.requires.0.enough c.in-Opened.e.bits c.in-Opened.f.bits (opens_short c.args.a.now c.in-Opened.e both.0) (opens_room c.args.a.now c.in-Opened.e both.0).few (opens_short c.args.b.now c.in-Opened.f both.1) (opens_room c.args.b.now c.in-Opened.f both.1).few in
+    let o = both in record {
+      holds = (first_holds join.Union c.args.a.now c.args.b.now c.in-Opened.e c.in-Opened.f o.0 o.1 o.2, opens_over c.args.a.now c.in-Opened.e o.0);
+      holds_2 = (second_holds join.Union c.args.a.now c.args.b.now c.in-Opened.e c.in-Opened.f o.0 o.1 o.2, opens_over c.args.b.now c.in-Opened.f o.1);
+      queue_room = rooms.0;
+    }
+
+pub write_joined-requires : goal.write_joined-requires
+write_joined-requires c =
+    let both : Both c.args.a.now c.args.b.now (Opened c.in-Opened.e c.in-Opened.f) = subst (Both c.args.a.now c.args.b.now) c.in-Opened.is c.open_both-pair.ensures in
+    let o = both in (
+      joined join.Union c.args.a.now c.args.b.now c.in-Opened.e c.in-Opened.f o.0 o.1 o.2 c.args.q.now _ c.united-k.result c.united-k.ensures,
+      c.requires.1,
+      omega (arith, c.requires.0.queue, c.united-k.ensures.size),
+    )
+
+pub slice_bounds-subtracted-count : goal.slice_bounds-subtracted-count
+slice_bounds-subtracted-count c =
+    let both : Both c.args.a.now c.args.b.now (Opened c.in-Opened.e c.in-Opened.f) = subst (Both c.args.a.now c.args.b.now) c.in-Opened.is c.open_both-pair.ensures in
+    let first-room : c.in-Opened.e.edges ≤ length c.args.a.now = omega (arith, (opens_room c.args.a.now c.in-Opened.e both.0).edges) in
+    first-room
+
+pub slice_bounds-subtracted-start : goal.slice_bounds-subtracted-start
+slice_bounds-subtracted-start c =
+    let both : Both c.args.a.now c.args.b.now (Opened c.in-Opened.e c.in-Opened.f) = subst (Both c.args.a.now c.args.b.now) c.in-Opened.is c.open_both-pair.ensures in
+    let first-room : c.in-Opened.e.edges ≤ length c.args.a.now = omega (arith, (opens_room c.args.a.now c.in-Opened.e both.0).edges) in
+    let z = first-room in search rules
+
+pub slice_bounds-subtracted-count-in-Difference : goal.slice_bounds-subtracted-count-in-Difference
+slice_bounds-subtracted-count-in-Difference c =
+    let both : Both c.args.a.now c.args.b.now (Opened c.in-Opened.e c.in-Opened.f) = subst (Both c.args.a.now c.args.b.now) c.in-Opened.is c.open_both-pair.ensures in
+    let second-room : c.in-Opened.f.edges ≤ length c.args.b.now = omega (arith, (opens_room c.args.b.now c.in-Opened.f both.1).edges) in
+    second-room
+
+pub slice_bounds-subtracted-start-in-Difference : goal.slice_bounds-subtracted-start-in-Difference
+slice_bounds-subtracted-start-in-Difference c =
+    let both : Both c.args.a.now c.args.b.now (Opened c.in-Opened.e c.in-Opened.f) = subst (Both c.args.a.now c.args.b.now) c.in-Opened.is c.open_both-pair.ensures in
+    let second-room : c.in-Opened.f.edges ≤ length c.args.b.now = omega (arith, (opens_room c.args.b.now c.in-Opened.f both.1).edges) in
+    let z = second-room in search rules
+
+pub subtracted-d-requires : goal.subtracted-d-requires
+subtracted-d-requires c =
+    let both : Both c.args.a.now c.args.b.now (Opened c.in-Opened.e c.in-Opened.f) = subst (Both c.args.a.now c.args.b.now) c.in-Opened.is c.open_both-pair.ensures in
+    let rooms : QueueRoom c.in-Opened.e.bits c.in-Opened.f.bits c.args.q.now × (c.in-Opened.e.bits < 8 * length c.args.edges.now) = c.requires.0.enough c.in-Opened.e.bits c.in-Opened.f.bits (opens_short c.args.a.now c.in-Opened.e both.0) (opens_room c.args.a.now c.in-Opened.e both.0).few (opens_short c.args.b.now c.in-Opened.f both.1) (opens_room c.args.b.now c.in-Opened.f both.1).few in
+    let o = both in record {
+      holds = (first_holds join.Difference c.args.a.now c.args.b.now c.in-Opened.e c.in-Opened.f o.0 o.1 o.2, opens_over c.args.a.now c.in-Opened.e o.0);
+      holds_2 = (second_holds join.Difference c.args.a.now c.args.b.now c.in-Opened.e c.in-Opened.f o.0 o.1 o.2, opens_over c.args.b.now c.in-Opened.f o.1);
+      queue_room = rooms;
+    }
+
+pub write_joined-requires-in-Difference : goal.write_joined-requires-in-Difference
+write_joined-requires-in-Difference c =
+    let both : Both c.args.a.now c.args.b.now (Opened c.in-Opened.e c.in-Opened.f) = subst (Both c.args.a.now c.args.b.now) c.in-Opened.is c.open_both-pair.ensures in
+    let o = both in (
+      joined join.Difference c.args.a.now c.args.b.now c.in-Opened.e c.in-Opened.f o.0 o.1 o.2 c.args.edges.now _ c.subtracted-d.result.edges c.subtracted-d.ensures.edges,
+      c.requires.1,
+      omega (arith, c.requires.0.edges, c.subtracted-d.ensures.edges.size),
+    )
+
+pub returns-in-Refused : goal.returns-in-Refused
+unfolding written_outcome refusal
+returns-in-Refused c = sym (join_refused (join_of c.args.kind) c.args.a.now c.args.b.now c.args.out.now c.in-Refused.k (subst (Both c.args.a.now c.args.b.now) c.in-Refused.is c.open_both-pair.ensures))
+
+pub returns-in-Union : goal.returns-in-Union
+returns-in-Union c =
+    let both : Both c.args.a.now c.args.b.now (Opened c.in-Opened.e c.in-Opened.f) = subst (Both c.args.a.now c.args.b.now) c.in-Opened.is c.open_both-pair.ensures in
+    let o = both in
+    let out = c.args.out.now in
+    c.write_joined.ensures
+    ∙ joined_call join.Union c.args.a.now c.args.b.now c.in-Opened.e c.in-Opened.f o.0 o.1 o.2 c.args.q.now _ c.united-k.result c.united-k.ensures out
+    ∙ ap (λ x. join_call (join_of x) c.args.a.now c.args.b.now out) (sym c.in-Union.is)
+
+pub returns-in-Difference : goal.returns-in-Difference
+returns-in-Difference c =
+    let both : Both c.args.a.now c.args.b.now (Opened c.in-Opened.e c.in-Opened.f) = subst (Both c.args.a.now c.args.b.now) c.in-Opened.is c.open_both-pair.ensures in
+    let o = both in
+    let out = c.args.out.now in
+    c.write_joined-in-Difference.ensures
+    ∙ joined_call join.Difference c.args.a.now c.args.b.now c.in-Opened.e c.in-Opened.f o.0 o.1 o.2 c.args.edges.now _ c.subtracted-d.result.edges c.subtracted-d.ensures.edges out
+    ∙ ap (λ x. join_call (join_of x) c.args.a.now c.args.b.now out) (sym c.in-Difference.is)
