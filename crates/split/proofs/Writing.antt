@@ -17,7 +17,7 @@ use Rattle.loes.specs.Calls.{after_reading, reading, split_call}
 use Rattle.loes.specs.Held.{entry_held}
 use Rattle.loes.specs.Refusals.{short_buffer}
 use Rattle.loes.specs.Model.{refused, wrote, writing_all, refusal, fronts, any_short, writes, join_tests, difference_entry, both_entry, split}
-use Rattle.loes.proofs.Tests.{lt_no}
+use Rattle.loes.proofs.Tests.{lt_no, no_lt, neither}
 use Rattle.loes.proofs.Writes.{writes_refused, writes_on, all_short, all_fit}
 use Rattle.loes.proofs.Histories.{difference_valid, both_valid}
 use Rattle.loes.proofs.Splits.{both_fewer, difference_fewer}
@@ -32,6 +32,14 @@ use Rattle.join.proofs.Joins.{widths_same, pair_refused, join_held, join_joined,
 use Rattle.divide.specs.declared.Three.{Three}
 use Rattle.divide.specs.Division.{MarksFit, Divided}
 use Rattle.split.specs.Splitting.{marks_for, SplitRooms}
+
+-- three buffers of which none is too short
+pub three_rooms : (m : ℕ) (k : Three) (xs ys zs : Bytes) → (ltb (length xs) (end_of m k.both) || (ltb (length ys) (end_of m k.only_first) || ltb (length zs) (end_of m k.only_second))) ≡ false
+    → (end_of m k.both ≤ length xs) × ((end_of m k.only_first ≤ length ys) × (end_of m k.only_second ≤ length zs))
+three_rooms m k xs ys zs g =
+    let r = neither (ltb (length xs) (end_of m k.both)) (ltb (length ys) (end_of m k.only_first) || ltb (length zs) (end_of m k.only_second)) g in
+    let s = neither (ltb (length ys) (end_of m k.only_first)) (ltb (length zs) (end_of m k.only_second)) r.1 in
+    (no_lt (length xs) (end_of m k.both) r.0, (no_lt (length ys) (end_of m k.only_first) s.0, no_lt (length zs) (end_of m k.only_second) s.1))
 
 -- ---- Three entries whose edges are not too many
 module _ (m i j h : ℕ) (x y z : Bytes) (p : Joined m i x) (q : Joined m j y) (r : Joined m h z) (fi : i ≤ max_edges) (fj : j ≤ max_edges) (fh : h ≤ max_edges) (xs ys zs : Bytes) where
