@@ -35,7 +35,8 @@ use Rattle.records.proofs.Sealing.{written_bits, written_room}
 use Rattle.join.specs.declared.Join.{Join}
 use Rattle.join.specs.declared.Join.TheVariants as join
 use Rattle.join.specs.declared.Pair.TheVariants as pair
-use Rattle.join.specs.Joining.{join_of, join_call, pair_of, pair_refusal, Both, Joined}
+use Rattle.merge.specs.Union.{QueueRoom}
+use Rattle.join.specs.Joining.{join_of, join_call, pair_of, pair_refusal, Both, Joined, edges_within, RoomFor}
 
 -- ---- Two checks
 reading_opened : {L : Type 0} (l : Bytes) (bufs : L) (next : Entry → OutcomeOf L) (e : Entry) → read l ≡ opened e → reading l bufs next ≡ next e
@@ -152,6 +153,13 @@ opens_short l e p = omega (arith, (opens_room l e p).edges)
 pub opens_over : (l : Bytes) (e : Encoding) → Opens l e → e.bits / 2 + overread ≤ 4 * length (take (length l - e.edges) (drop e.edges l))
 unfolding start5 start6 started
 opens_over l e p = rw (rest_is l e.edges, length-drop e.edges l) (omega (arith, (opens_room l e p).sub_blocks, p.edges, p.sub_blocks, p.bits))
+
+-- the rooms serve what two encodings of these lengths have
+pub rooms_serve : {a b : Bytes} (q l : Bytes) (e f : Encoding) → Opens a e → Opens b f → RoomFor (length a) (length b) (length q) (length l) → QueueRoom e.bits f.bits q × (e.bits < 8 * length l)
+rooms_serve {a} {b} q l e f h g r =
+    let i : e.bits ≤ edges_within (length a) = omega (arith, opens_short a e h, (opens_room a e h).few) in
+    let j : f.bits ≤ edges_within (length b) = omega (arith, opens_short b f g, (opens_room b f g).few) in
+    (record { queue = omega (arith, i, j, r.flags); small = omega (arith, r.few_flags) }, omega (arith, i, r.first))
 
 module _ (kind : Join) (a b : Bytes) (e f : Encoding) (p : Opens a e) (q : Opens b f) (w : e.width ≡ f.width) where
   abbrev pub first : Bytes

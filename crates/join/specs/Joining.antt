@@ -1,5 +1,5 @@
 -- Union and difference as one call, and what is known on its way.
-use Rattle.std.specs.Prelude.{◌≡◌, ℕ, ◌+◌, ◌*◌, ◌/◌, ◌<◌, ◌≤◌, cond, [], ◌∷◌, length, take, eqb}
+use Rattle.std.specs.Prelude.{◌≡◌, ℕ, min, ◌+◌, ◌*◌, ◌/◌, ◌<◌, ◌≤◌, cond, [], ◌∷◌, length, take, eqb}
 use mathlib.Core.Option.{Option, some}
 use Rattle.loes.specs.Limits.{max_width, max_edges}
 use Rattle.loes.specs.Bytes.{Bytes, started, pack_bits, bits_in}
@@ -11,7 +11,6 @@ use Rattle.loes.specs.Model.{Outcome, join_tests, writes, union_entry, differenc
 use Rattle.loes.specs.Calls.{reading}
 use Rattle.encoding.specs.Opened.{Opens}
 use Rattle.records.specs.Numbers.{overwrite}
-use Rattle.merge.specs.Union.{QueueRoom}
 use Rattle.encoding.specs.declared.Checked.{Checked}
 use Rattle.encoding.specs.declared.Checked.TheVariants as checked
 use Rattle.join.specs.declared.Join.{Join}
@@ -78,8 +77,13 @@ queue_for n = 4 * n + spare
 abbrev pub edges_for : ℕ → ℕ
 edges_for n = n + spare
 
--- room in a queue, and for the edges of a difference, for whatever two encodings of these lengths have
-pub record Rooms (x y : ℕ) (q l : Bytes) : Type 0 where
-  pub enough : (ba bb : ℕ) → ba ≤ 8 * x → ba ≤ max_edges → bb ≤ 8 * y → bb ≤ max_edges → QueueRoom ba bb q × (ba < 8 * length l)
-  pub queue : length q ≤ queue_for large
-  pub edges : length l ≤ edges_for large
+-- the most edges of an encoding of n bytes
+abbrev pub edges_within : ℕ → ℕ
+edges_within n = min (8 * n) max_edges
+
+-- a queue and room for the edges of a difference, of so many bytes, for whatever two encodings of x and y bytes have
+pub record RoomFor (x y queue edges : ℕ) : Type 0 where
+  pub flags : edges_within x + edges_within y + 1 + overwrite ≤ 4 * queue
+  pub first : edges_within x < 8 * edges
+  pub few_flags : queue ≤ queue_for large
+  pub few_edges : edges ≤ edges_for large

@@ -16,7 +16,7 @@ ghost use Rattle.records.specs.Records.{Packed};
 ghost use Rattle.records.specs.Numbers.{overread};
 ghost use Rattle.merge.specs.Union.{QueueRoom, Merged};
 ghost use Rattle.restrict.specs.Restriction.{Subtracts};
-ghost use Rattle.join.specs.Joining.{pair_of, Both, join_of, Joined, tiny, small, middle, large, queue_for, edges_for, Rooms, join_call};
+ghost use Rattle.join.specs.Joining.{pair_of, Both, join_of, Joined, large, queue_for, RoomFor, join_call};
 
 use bits::RecordIndex;
 use build::Written;
@@ -164,7 +164,7 @@ fn join_with(
     edges: &mut [u8],
     out: &mut [u8],
 ) -> Written
-    requires { Rooms (length a.now) (length b.now) q.old edges.old × Tallies t.now }
+    requires { RoomFor (length a.now) (length b.now) (length q.old) (length edges.old) × Tallies t.now }
     ensures { written_outcome result out.new ≡ join_call (join_of kind) a.now b.now out.old }
 {
     let pair = open_both(a, b, t);
@@ -196,128 +196,62 @@ pub const SPARE: usize = 8 + 1;
 // The greatest n of tiny encodings.
 pub const TINY: usize = 512;
 
-const TINY_QUEUE: usize = QUEUE_BYTES * TINY + SPARE;
+pub const TINY_QUEUE: usize = QUEUE_BYTES * TINY + SPARE;
 
-const TINY_EDGES: usize = TINY + SPARE;
+pub const TINY_EDGES: usize = TINY + SPARE;
 
 // Of small ones.
 pub const SMALL: usize = 2048;
 
-const SMALL_QUEUE: usize = QUEUE_BYTES * SMALL + SPARE;
+pub const SMALL_QUEUE: usize = QUEUE_BYTES * SMALL + SPARE;
 
-const SMALL_EDGES: usize = SMALL + SPARE;
+pub const SMALL_EDGES: usize = SMALL + SPARE;
 
 // Of those of middle size.
 pub const MIDDLE: usize = 16384;
 
-const MIDDLE_QUEUE: usize = QUEUE_BYTES * MIDDLE + SPARE;
+pub const MIDDLE_QUEUE: usize = QUEUE_BYTES * MIDDLE + SPARE;
 
-const MIDDLE_EDGES: usize = MIDDLE + SPARE;
+pub const MIDDLE_EDGES: usize = MIDDLE + SPARE;
 
 // Of any, by the most edges.
 pub const LARGE: usize = Encoding::MAX_EDGES / 8;
 
-const LARGE_QUEUE: usize = QUEUE_BYTES * LARGE + SPARE;
+pub const LARGE_QUEUE: usize = QUEUE_BYTES * LARGE + SPARE;
 
-const LARGE_EDGES: usize = LARGE + SPARE;
+pub const LARGE_EDGES: usize = LARGE + SPARE;
 
-// The rooms, cleared.
-pub fn tiny_queue() -> [u8; TINY_QUEUE]
-    ensures { length result ≡ queue_for tiny }
-{
-    [0; TINY_QUEUE]
-}
-
-pub fn tiny_edges() -> [u8; TINY_EDGES]
-    ensures { length result ≡ edges_for tiny }
-{
-    [0; TINY_EDGES]
-}
-
-pub fn small_queue() -> [u8; SMALL_QUEUE]
-    ensures { length result ≡ queue_for small }
-{
-    [0; SMALL_QUEUE]
-}
-
-pub fn small_edges() -> [u8; SMALL_EDGES]
-    ensures { length result ≡ edges_for small }
-{
-    [0; SMALL_EDGES]
-}
-
-pub fn middle_queue() -> [u8; MIDDLE_QUEUE]
-    ensures { length result ≡ queue_for middle }
-{
-    [0; MIDDLE_QUEUE]
-}
-
-pub fn middle_edges() -> [u8; MIDDLE_EDGES]
-    ensures { length result ≡ edges_for middle }
-{
-    [0; MIDDLE_EDGES]
-}
-
-pub fn large_queue() -> [u8; LARGE_QUEUE]
-    ensures { length result ≡ queue_for large }
-{
-    [0; LARGE_QUEUE]
-}
-
-pub fn large_edges() -> [u8; LARGE_EDGES]
-    ensures { length result ≡ edges_for large }
-{
-    [0; LARGE_EDGES]
-}
-
-// For two tiny encodings. Each of these four makes the counting table and is called at two places, so that it stays a function when compiled: a small join does not touch the stack of a large one.
-fn join_tiny(kind: Join, a: &[u8], b: &[u8], out: &mut [u8]) -> Written
-    requires { (length a.now ≤ tiny) × (length b.now ≤ tiny) }
+// Joins in rooms of its own, of these sizes. It stays a function when compiled, one for each of the sizes: a small join does not touch the stack of a large one.
+#[inline(never)]
+fn join_in<const QUEUE: usize, const EDGES: usize>(
+    kind: Join,
+    a: &[u8],
+    b: &[u8],
+    out: &mut [u8],
+) -> Written
+    requires { RoomFor (length a.now) (length b.now) QUEUE EDGES }
     ensures { written_outcome result out.new ≡ join_call (join_of kind) a.now b.now out.old }
 {
     let t = bits::tallies();
-    let mut q = tiny_queue();
-    let mut edges = tiny_edges();
+    let mut q = [0; QUEUE];
+    let mut edges = [0; EDGES];
     join_with(kind, a, b, &t, &mut q, &mut edges, out)
 }
 
-// For two small ones.
-fn join_small(kind: Join, a: &[u8], b: &[u8], out: &mut [u8]) -> Written
-    requires { (length a.now ≤ small) × (length b.now ≤ small) }
+// Joins in the smallest rooms that serve the longer of the two.
+fn join_by_length(kind: Join, a: &[u8], b: &[u8], out: &mut [u8]) -> Written
     ensures { written_outcome result out.new ≡ join_call (join_of kind) a.now b.now out.old }
 {
-    let t = bits::tallies();
-    let mut q = small_queue();
-    let mut edges = small_edges();
-    join_with(kind, a, b, &t, &mut q, &mut edges, out)
-}
-
-// For two of middle size.
-fn join_middle(kind: Join, a: &[u8], b: &[u8], out: &mut [u8]) -> Written
-    requires { (length a.now ≤ middle) × (length b.now ≤ middle) }
-    ensures { written_outcome result out.new ≡ join_call (join_of kind) a.now b.now out.old }
-{
-    let t = bits::tallies();
-    let mut q = middle_queue();
-    let mut edges = middle_edges();
-    join_with(kind, a, b, &t, &mut q, &mut edges, out)
-}
-
-// For any two.
-fn join_large(kind: Join, a: &[u8], b: &[u8], out: &mut [u8]) -> Written
-    ensures { written_outcome result out.new ≡ join_call (join_of kind) a.now b.now out.old }
-{
-    let t = bits::tallies();
-    let mut q = large_queue();
-    let mut edges = large_edges();
-    join_with(kind, a, b, &t, &mut q, &mut edges, out)
-}
-
-// The longer of two lengths.
-pub fn longer(x: usize, y: usize) -> usize
-    ensures { (x ≤ result) × (y ≤ result) }
-{
-    if x < y { y } else { x }
+    let n = a.len().max(b.len());
+    if n <= TINY {
+        join_in::<TINY_QUEUE, TINY_EDGES>(kind, a, b, out)
+    } else if n <= SMALL {
+        join_in::<SMALL_QUEUE, SMALL_EDGES>(kind, a, b, out)
+    } else if n <= MIDDLE {
+        join_in::<MIDDLE_QUEUE, MIDDLE_EDGES>(kind, a, b, out)
+    } else {
+        join_in::<LARGE_QUEUE, LARGE_EDGES>(kind, a, b, out)
+    }
 }
 
 // ---- The calls
@@ -325,32 +259,12 @@ pub fn longer(x: usize, y: usize) -> usize
 pub fn union(a: &[u8], b: &[u8], out: &mut [u8]) -> Written
     ensures { written_outcome result out.new ≡ union_call a.now b.now out.old }
 {
-    let n = longer(a.len(), b.len());
-    if n <= TINY {
-        return join_tiny(Join::Union, a, b, out);
-    }
-    if n <= SMALL {
-        return join_small(Join::Union, a, b, out);
-    }
-    if n <= MIDDLE {
-        return join_middle(Join::Union, a, b, out);
-    }
-    join_large(Join::Union, a, b, out)
+    join_by_length(Join::Union, a, b, out)
 }
 
 // The keys in the first set but not in the second (document 01: strike).
 pub fn difference(a: &[u8], b: &[u8], out: &mut [u8]) -> Written
     ensures { written_outcome result out.new ≡ difference_call a.now b.now out.old }
 {
-    let n = longer(a.len(), b.len());
-    if n <= TINY {
-        return join_tiny(Join::Difference, a, b, out);
-    }
-    if n <= SMALL {
-        return join_small(Join::Difference, a, b, out);
-    }
-    if n <= MIDDLE {
-        return join_middle(Join::Difference, a, b, out);
-    }
-    join_large(Join::Difference, a, b, out)
+    join_by_length(Join::Difference, a, b, out)
 }

@@ -9,7 +9,7 @@ use Rattle.merge.specs.Union.{QueueRoom}
 use Rattle.join.specs.declared.Join.TheVariants as join
 use Rattle.join.specs.declared.Pair.TheVariants.{Opened}
 use Rattle.join.specs.Joining.{Both, join_of, join_call}
-use Rattle.join.proofs.Joins.{opens_short, opens_over, first_holds, second_holds, join_refused, joined, joined_call}
+use Rattle.join.proofs.Joins.{rooms_serve, opens_over, first_holds, second_holds, join_refused, joined, joined_call}
 use borrow.Author.Rules.{rules}
 use Rattle.join.proofs.join_with.Goals as goal
 
@@ -40,7 +40,7 @@ slice_bounds-united-start-in-Union c =
 pub united-k-requires : goal.united-k-requires
 united-k-requires c =
     let both : Both c.args.a.now c.args.b.now (Opened c.in-Opened.e c.in-Opened.f) = subst (Both c.args.a.now c.args.b.now) c.in-Opened.is c.open_both-pair.ensures in
-    let rooms : QueueRoom c.in-Opened.e.bits c.in-Opened.f.bits c.args.q.now × (c.in-Opened.e.bits < 8 * length c.args.edges.now) = c.requires.0.enough c.in-Opened.e.bits c.in-Opened.f.bits (opens_short c.args.a.now c.in-Opened.e both.0) (opens_room c.args.a.now c.in-Opened.e both.0).few (opens_short c.args.b.now c.in-Opened.f both.1) (opens_room c.args.b.now c.in-Opened.f both.1).few in
+    let rooms : QueueRoom c.in-Opened.e.bits c.in-Opened.f.bits c.args.q.now × (c.in-Opened.e.bits < 8 * length c.args.edges.now) = rooms_serve c.args.q.now c.args.edges.now c.in-Opened.e c.in-Opened.f both.0 both.1 c.requires.0 in
     let o = both in record {
       holds = (first_holds join.Union c.args.a.now c.args.b.now c.in-Opened.e c.in-Opened.f o.0 o.1 o.2, opens_over c.args.a.now c.in-Opened.e o.0);
       holds_2 = (second_holds join.Union c.args.a.now c.args.b.now c.in-Opened.e c.in-Opened.f o.0 o.1 o.2, opens_over c.args.b.now c.in-Opened.f o.1);
@@ -53,7 +53,7 @@ write_joined-requires c =
     let o = both in (
       joined join.Union c.args.a.now c.args.b.now c.in-Opened.e c.in-Opened.f o.0 o.1 o.2 c.args.q.now _ c.united-k.result c.united-k.ensures,
       c.requires.1,
-      omega (arith, c.requires.0.queue, c.united-k.ensures.size),
+      omega (arith, c.requires.0.few_flags, c.united-k.ensures.size),
     )
 
 pub slice_bounds-subtracted-count : goal.slice_bounds-subtracted-count
@@ -83,7 +83,7 @@ slice_bounds-subtracted-start-in-Difference c =
 pub subtracted-d-requires : goal.subtracted-d-requires
 subtracted-d-requires c =
     let both : Both c.args.a.now c.args.b.now (Opened c.in-Opened.e c.in-Opened.f) = subst (Both c.args.a.now c.args.b.now) c.in-Opened.is c.open_both-pair.ensures in
-    let rooms : QueueRoom c.in-Opened.e.bits c.in-Opened.f.bits c.args.q.now × (c.in-Opened.e.bits < 8 * length c.args.edges.now) = c.requires.0.enough c.in-Opened.e.bits c.in-Opened.f.bits (opens_short c.args.a.now c.in-Opened.e both.0) (opens_room c.args.a.now c.in-Opened.e both.0).few (opens_short c.args.b.now c.in-Opened.f both.1) (opens_room c.args.b.now c.in-Opened.f both.1).few in
+    let rooms : QueueRoom c.in-Opened.e.bits c.in-Opened.f.bits c.args.q.now × (c.in-Opened.e.bits < 8 * length c.args.edges.now) = rooms_serve c.args.q.now c.args.edges.now c.in-Opened.e c.in-Opened.f both.0 both.1 c.requires.0 in
     let o = both in record {
       holds = (first_holds join.Difference c.args.a.now c.args.b.now c.in-Opened.e c.in-Opened.f o.0 o.1 o.2, opens_over c.args.a.now c.in-Opened.e o.0);
       holds_2 = (second_holds join.Difference c.args.a.now c.args.b.now c.in-Opened.e c.in-Opened.f o.0 o.1 o.2, opens_over c.args.b.now c.in-Opened.f o.1);
@@ -96,7 +96,7 @@ write_joined-requires-in-Difference c =
     let o = both in (
       joined join.Difference c.args.a.now c.args.b.now c.in-Opened.e c.in-Opened.f o.0 o.1 o.2 c.args.edges.now _ c.subtracted-d.result.edges c.subtracted-d.ensures.edges,
       c.requires.1,
-      omega (arith, c.requires.0.edges, c.subtracted-d.ensures.edges.size),
+      omega (arith, c.requires.0.few_edges, c.subtracted-d.ensures.edges.size),
     )
 
 pub returns-in-Refused : goal.returns-in-Refused
