@@ -1,8 +1,0 @@
-use native.Mathlib.Omega.{arith}
-use lib.ListN.{length}
-use Rattle.join.specs.Joining.{small}
-use Rattle.split.proofs.Writing.{rooms_for}
-use Rattle.split.proofs.split_small.Goals as goal
-
-pub split_with-requires : goal.split_with-requires
-split_with-requires c = (rooms_for small (length c.args.a.now) (length c.args.b.now) _ _ _ _ (omega arith) (λ b i j. omega (arith, i, c.requires.0)) (λ b i j. omega (arith, i, c.requires.1)) c.small_queue-q.ensures c.small_marks-x.ensures c.small_marks-y.ensures c.small_marks-z.ensures, c.tallies-t.ensures)
