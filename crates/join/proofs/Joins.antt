@@ -4,7 +4,7 @@ use Prim.Native.Nat.{ℕ, ◌+◌, ◌*◌, ◌-◌, ◌/◌, ◌≤◌, ◌<◌
 use mathlib.Core.Bool.{Bool, true, false, not, cond}
 use mathlib.Core.List.{[], ◌∷◌}
 use native.Mathlib.Omega.{arith}
-use lib.ListN.{length, take, drop, length-drop}
+use lib.ListN.{length, replicate, length-replicate, take, drop, length-drop}
 use lib.Seq.{length-take-le}
 use Rattle.loes.proofs.Lists.{rest_is}
 use lib.Dec.{eqb}
@@ -154,12 +154,14 @@ pub opens_over : (l : Bytes) (e : Encoding) → Opens l e → e.bits / 2 + overr
 unfolding start5 start6 started
 opens_over l e p = rw (rest_is l e.edges, length-drop e.edges l) (omega (arith, (opens_room l e p).sub_blocks, p.edges, p.sub_blocks, p.bits))
 
--- the rooms serve what two encodings of these lengths have
-pub rooms_serve : {a b : Bytes} (q l : Bytes) (e f : Encoding) → Opens a e → Opens b f → RoomFor (length a) (length b) (length q) (length l) → QueueRoom e.bits f.bits q × (e.bits < 8 * length l)
-rooms_serve {a} {b} q l e f h g r =
-    let i : e.bits ≤ edges_within (length a) = omega (arith, opens_short a e h, (opens_room a e h).few) in
-    let j : f.bits ≤ edges_within (length b) = omega (arith, opens_short b f g, (opens_room b f g).few) in
-    (record { queue = omega (arith, i, j, r.flags); small = omega (arith, r.few_flags) }, omega (arith, i, r.first))
+-- the rooms, cleared, serve what two encodings of these lengths have
+pub rooms_serve : {a b : Bytes} (queue edges : ℕ) (e f : Encoding) → Opens a e → Opens b f → RoomFor (length a) (length b) queue edges
+    → QueueRoom e.bits f.bits (replicate queue 0) × (e.bits < 8 * length {A = ℕ} (replicate edges 0))
+rooms_serve {a} {b} queue edges e f p q r =
+    let i : e.bits ≤ edges_within (length a) = omega (arith, opens_short a e p, (opens_room a e p).few) in
+    let j : f.bits ≤ edges_within (length b) = omega (arith, opens_short b f q, (opens_room b f q).few) in
+    let long : (n : ℕ) → length {A = ℕ} (replicate n 0) ≡ n = λ n. length-replicate n 0 in
+    (record { queue = omega (arith, i, j, long queue, r.flags); small = omega (arith, long queue, r.few_flags) }, omega (arith, i, long edges, r.first))
 
 module _ (kind : Join) (a b : Bytes) (e f : Encoding) (p : Opens a e) (q : Opens b f) (w : e.width ≡ f.width) where
   abbrev pub first : Bytes

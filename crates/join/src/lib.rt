@@ -154,39 +154,6 @@ pub fn put_encoding(m: usize, k: usize, edges: &[u8], t: &[u8], out: &mut [u8]) 
     build::length_of(m, k)
 }
 
-// Joins with the counting table, a queue and room for the edges of a difference lent.
-fn join_with(
-    kind: Join,
-    a: &[u8],
-    b: &[u8],
-    t: &[u8],
-    q: &mut [u8],
-    edges: &mut [u8],
-    out: &mut [u8],
-) -> Written
-    requires { RoomFor (length a.now) (length b.now) (length q.old) (length edges.old) × Tallies t.now }
-    ensures { written_outcome result out.new ≡ join_call (join_of kind) a.now b.now out.old }
-{
-    let pair = open_both(a, b, t);
-    match pair {
-        Pair::Refused(k) => Written::Refused(k),
-        Pair::Opened(e, f) => {
-            let from = e.edges;
-            let other = f.edges;
-            match kind {
-                Join::Union => {
-                    let k = united(e.width, &a[from..], e.bits, &b[other..], f.bits, q);
-                    write_joined(e.width, k, q, t, out)
-                }
-                Join::Difference => {
-                    let d = subtracted(e.width, &a[from..], e.bits, &b[other..], f.bits, q, edges);
-                    write_joined(e.width, d.edges, edges, t, out)
-                }
-            }
-        }
-    }
-}
-
 // ---- Rooms. For two encodings of at most n bytes each, so at most 8 n edges: a queue of QUEUE_BYTES * n + SPARE bytes for the flags that merging pushes, two bits for each edge of both, and n + SPARE bytes for the edges of a difference, which are no more than the first's. Small ones are quick to clear.
 // The bytes of a queue for each of n: sixteen flags.
 const QUEUE_BYTES: usize = 4;
@@ -233,9 +200,34 @@ fn join_in<const QUEUE: usize, const EDGES: usize>(
     ensures { written_outcome result out.new ≡ join_call (join_of kind) a.now b.now out.old }
 {
     let t = bits::tallies();
-    let mut q = [0; QUEUE];
-    let mut edges = [0; EDGES];
-    join_with(kind, a, b, &t, &mut q, &mut edges, out)
+    let pair = open_both(a, b, &t);
+    match pair {
+        Pair::Refused(k) => Written::Refused(k),
+        Pair::Opened(e, f) => {
+            let from = e.edges;
+            let other = f.edges;
+            let mut q = [0; QUEUE];
+            match kind {
+                Join::Union => {
+                    let k = united(e.width, &a[from..], e.bits, &b[other..], f.bits, &mut q);
+                    write_joined(e.width, k, &q, &t, out)
+                }
+                Join::Difference => {
+                    let mut edges = [0; EDGES];
+                    let d = subtracted(
+                        e.width,
+                        &a[from..],
+                        e.bits,
+                        &b[other..],
+                        f.bits,
+                        &mut q,
+                        &mut edges,
+                    );
+                    write_joined(e.width, d.edges, &edges, &t, out)
+                }
+            }
+        }
+    }
 }
 
 // Joins in the smallest rooms that serve the longer of the two.
