@@ -13,7 +13,7 @@ ghost use Rattle.bits.specs.Tables.{Tallies};
 ghost use Rattle.encoding.specs.Opened.{Opens};
 ghost use Rattle.pack.specs.Packing.{Ready};
 ghost use Rattle.merge.specs.Union.{QueueRoom};
-ghost use Rattle.join.specs.Joining.{Joined, tiny, small, middle, Rooms};
+ghost use Rattle.join.specs.Joining.{Joined, RoomFor};
 ghost use Rattle.weights.specs.Weights.{outside, no_weight, writes_with, post as postTo, union_weighted, difference_weighted, pack_weighted_call, post_call, union_weighted_call, difference_weighted_call};
 ghost use Rattle.weights.specs.Answers.{posting_outcome, weighted_outcome, posted_at, weighted_call};
 ghost use Rattle.weights.specs.Lists.{taken, sum_at, over_at, any_below, kept_to, FlagsFit, Flagged, FlagRead};
@@ -381,88 +381,39 @@ fn subtract(
     write_difference(e.width, d, t, q, edges, wa, out, list)
 }
 
-// Joins with the counting table, a queue and room for the edges of a difference lent.
-fn join_with(
+// Joins in rooms of its own, of these sizes. It stays a function when compiled, one for each of the sizes, as that of crate join does.
+#[inline(never)]
+fn join_in<const QUEUE: usize, const EDGES: usize>(
     kind: Join,
     a: &[u8],
     wa: &[i32],
     b: &[u8],
     wb: &[i32],
-    t: &[u8],
-    q: &mut [u8],
-    edges: &mut [u8],
     out: &mut [u8],
     list: &mut [i32],
 ) -> Written
-    requires { Rooms (length a.now) (length b.now) q.old edges.old × Tallies t.now }
+    requires { RoomFor (length a.now) (length b.now) QUEUE EDGES }
     ensures { weighted_outcome result out.new list.new ≡ weighted_call kind a.now wa.now b.now wb.now out.old list.old }
 {
-    let pair = join::open_both(a, b, t);
+    let t = bits::tallies();
+    let pair = join::open_both(a, b, &t);
     match pair {
         Pair::Refused(k) => Written::Refused(k),
-        Pair::Opened(e, f) => match kind {
-            Join::Union => unite(e, f, a, wa, b, wb, t, q, out, list),
-            Join::Difference => subtract(e, f, a, wa, b, t, q, edges, out, list),
-        },
+        Pair::Opened(e, f) => {
+            let mut q = [0; QUEUE];
+            match kind {
+                Join::Union => unite(e, f, a, wa, b, wb, &t, &mut q, out, list),
+                Join::Difference => {
+                    let mut edges = [0; EDGES];
+                    subtract(e, f, a, wa, b, &t, &mut q, &mut edges, out, list)
+                }
+            }
+        }
     }
 }
 
-// In the rooms that a join has, by the lengths of both. Each of these four is called at two places, for the reason that crate join gives at its own.
-fn join_tiny(
-    kind: Join,
-    a: &[u8],
-    wa: &[i32],
-    b: &[u8],
-    wb: &[i32],
-    out: &mut [u8],
-    list: &mut [i32],
-) -> Written
-    requires { (length a.now ≤ tiny) × (length b.now ≤ tiny) }
-    ensures { weighted_outcome result out.new list.new ≡ weighted_call kind a.now wa.now b.now wb.now out.old list.old }
-{
-    let t = bits::tallies();
-    let mut q = join::tiny_queue();
-    let mut edges = join::tiny_edges();
-    join_with(kind, a, wa, b, wb, &t, &mut q, &mut edges, out, list)
-}
-
-fn join_small(
-    kind: Join,
-    a: &[u8],
-    wa: &[i32],
-    b: &[u8],
-    wb: &[i32],
-    out: &mut [u8],
-    list: &mut [i32],
-) -> Written
-    requires { (length a.now ≤ small) × (length b.now ≤ small) }
-    ensures { weighted_outcome result out.new list.new ≡ weighted_call kind a.now wa.now b.now wb.now out.old list.old }
-{
-    let t = bits::tallies();
-    let mut q = join::small_queue();
-    let mut edges = join::small_edges();
-    join_with(kind, a, wa, b, wb, &t, &mut q, &mut edges, out, list)
-}
-
-fn join_middle(
-    kind: Join,
-    a: &[u8],
-    wa: &[i32],
-    b: &[u8],
-    wb: &[i32],
-    out: &mut [u8],
-    list: &mut [i32],
-) -> Written
-    requires { (length a.now ≤ middle) × (length b.now ≤ middle) }
-    ensures { weighted_outcome result out.new list.new ≡ weighted_call kind a.now wa.now b.now wb.now out.old list.old }
-{
-    let t = bits::tallies();
-    let mut q = join::middle_queue();
-    let mut edges = join::middle_edges();
-    join_with(kind, a, wa, b, wb, &t, &mut q, &mut edges, out, list)
-}
-
-fn join_large(
+// Joins in the smallest rooms that serve the longer of the two.
+fn join_by_length(
     kind: Join,
     a: &[u8],
     wa: &[i32],
@@ -473,10 +424,16 @@ fn join_large(
 ) -> Written
     ensures { weighted_outcome result out.new list.new ≡ weighted_call kind a.now wa.now b.now wb.now out.old list.old }
 {
-    let t = bits::tallies();
-    let mut q = join::large_queue();
-    let mut edges = join::large_edges();
-    join_with(kind, a, wa, b, wb, &t, &mut q, &mut edges, out, list)
+    let n = a.len().max(b.len());
+    if n <= join::TINY {
+        join_in::<{ join::TINY_QUEUE }, { join::TINY_EDGES }>(kind, a, wa, b, wb, out, list)
+    } else if n <= join::SMALL {
+        join_in::<{ join::SMALL_QUEUE }, { join::SMALL_EDGES }>(kind, a, wa, b, wb, out, list)
+    } else if n <= join::MIDDLE {
+        join_in::<{ join::MIDDLE_QUEUE }, { join::MIDDLE_EDGES }>(kind, a, wa, b, wb, out, list)
+    } else {
+        join_in::<{ join::LARGE_QUEUE }, { join::LARGE_EDGES }>(kind, a, wa, b, wb, out, list)
+    }
 }
 
 // The keys in either set, and a list of their weights: a key that both have weighs the sum.
@@ -490,17 +447,7 @@ pub fn union_weighted(
 ) -> Written
     ensures { weighted_outcome result out.new list.new ≡ union_weighted_call a.now wa.now b.now wb.now out.old list.old }
 {
-    let n = join::longer(a.len(), b.len());
-    if n <= join::TINY {
-        return join_tiny(Join::Union, a, wa, b, wb, out, list);
-    }
-    if n <= join::SMALL {
-        return join_small(Join::Union, a, wa, b, wb, out, list);
-    }
-    if n <= join::MIDDLE {
-        return join_middle(Join::Union, a, wa, b, wb, out, list);
-    }
-    join_large(Join::Union, a, wa, b, wb, out, list)
+    join_by_length(Join::Union, a, wa, b, wb, out, list)
 }
 
 // The keys in the first set but not in the second, and what they weigh in the first.
@@ -513,15 +460,5 @@ pub fn difference_weighted(
 ) -> Written
     ensures { weighted_outcome result out.new list.new ≡ difference_weighted_call a.now wa.now b.now out.old list.old }
 {
-    let n = join::longer(a.len(), b.len());
-    if n <= join::TINY {
-        return join_tiny(Join::Difference, a, wa, b, &[], out, list);
-    }
-    if n <= join::SMALL {
-        return join_small(Join::Difference, a, wa, b, &[], out, list);
-    }
-    if n <= join::MIDDLE {
-        return join_middle(Join::Difference, a, wa, b, &[], out, list);
-    }
-    join_large(Join::Difference, a, wa, b, &[], out, list)
+    join_by_length(Join::Difference, a, wa, b, &[], out, list)
 }
