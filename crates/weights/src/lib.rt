@@ -1,7 +1,7 @@
 // Weights beside an encoding: a list of signed numbers of 32 bits, entry i for the member at index i.
 #![tactic(auto)]
 
-ghost use Rattle.std.specs.Prelude.{ℕ, ◌+◌, ◌*◌, ◌/◌, ◌≤◌, ◌<◌, ◌≡◌, [], ◌∷◌, true, false, ◌&&◌, ◌||◌, ◌+ℤ◌, length, get_or, ltb};
+ghost use Rattle.std.specs.Prelude.{ℕ, ℤ, ◌+◌, ◌*◌, ◌/◌, ◌≤◌, ◌<◌, ◌≡◌, [], ◌∷◌, true, false, ◌&&◌, ◌||◌, ◌+ℤ◌, length, get_or, ltb, SomeIff};
 ghost use Rattle.loes.specs.Limits.{max_width, max_edges};
 ghost use Rattle.loes.specs.Bytes.{odd, tabulate};
 ghost use Rattle.loes.specs.Entry.{count, edge_count};
@@ -28,39 +28,12 @@ use pack::Verdict;
 use query::Lookup;
 use restrict::Remainder;
 
-// ---- Sums, and their range
-// The sum of two weights, at 64 bits.
-fn sum(a: i32, b: i32) -> i64
-    ensures { result ≡ a +ℤ b }
-{
-    a as i64 + b as i64
-}
-
-// The ends of 32 signed bits.
-const LEAST: i64 = -2147483648;
-
-const GREATEST: i64 = 2147483647;
-
-// Whether a sum leaves 32 signed bits, at either end.
-fn is_outside(s: i64) -> bool
-    ensures { result ≡ outside s }
-{
-    if s < LEAST { true } else { GREATEST < s }
-}
-
-// Either of two.
-fn either(a: bool, b: bool) -> bool
-    ensures { result ≡ (a || b) }
-{
-    if a { true } else { b }
-}
-
 // ---- Lists of two sets, read in step with the flags of their union's members. A weight is read before its flag says whether to take it, so that no load waits for its own flag and the choice takes no jump.
 // Weight i of a list, or 0 where there is none.
 fn weight_at(ws: &[i32], i: usize) -> i32
     ensures { result ≡ get_or ws.now i no_weight }
 {
-    if i < ws.len() { ws[i] } else { 0 }
+    ws.get(i).copied().unwrap_or(0)
 }
 
 // The same if f is odd, else 0.
@@ -71,13 +44,14 @@ fn weight_if(f: u8, ws: &[i32], i: usize) -> i32
     if f % 2 == 1 { x } else { 0 }
 }
 
-// Both weights of a member with flag f, added; the sum leaves 32 bits only if both sets have it.
-fn sum_at(f: u8, wa: &[i32], ia: usize, wb: &[i32], ib: usize) -> i64
-    ensures { (result ≡ taken (odd f) wa.now ia +ℤ taken (odd (f / 2)) wb.now ib) × ((odd f && odd (f / 2)) ≡ false → outside result ≡ false) }
+// Both weights of a member with flag f, added, unless the sum leaves 32 signed bits, as it can only if both sets have it.
+fn sum_at(f: u8, wa: &[i32], ia: usize, wb: &[i32], ib: usize) -> Option<i32>
+    ensures fits { let sum : ℤ = taken (odd f) wa.now ia +ℤ taken (odd (f / 2)) wb.now ib in SomeIff result (outside sum ≡ false) sum }
+    ensures alone { (odd f && odd (f / 2)) ≡ false → outside (taken (odd f) wa.now ia +ℤ taken (odd (f / 2)) wb.now ib) ≡ false }
 {
     let x = weight_if(f, wa, ia);
     let y = weight_if(f / 2, wb, ib);
-    sum(x, y)
+    x.checked_add(y)
 }
 
 // The flag of member i, of those from place r on.
@@ -89,7 +63,7 @@ fn flag_at(q: &[u8], r: RecordIndex, i: usize) -> u8
     records::record_at(q, RecordIndex(at))
 }
 
-// Whether some member of both has a sum that leaves 32 signed bits.
+// Whether some member of both has a sum that leaves 32 signed bits. No member ends the loop, so that it takes no jump.
 fn any_outside(q: &[u8], r: RecordIndex, n: usize, wa: &[i32], wb: &[i32]) -> bool
     requires { FlagsFit q.now r.0 n }
     ensures { result ≡ any_below (over_at q.now r.0 wa.now wb.now) n }
@@ -97,14 +71,11 @@ fn any_outside(q: &[u8], r: RecordIndex, n: usize, wa: &[i32], wb: &[i32]) -> bo
     let mut ia: usize = 0;
     let mut ib: usize = 0;
     let mut over = false;
-    let mut i = 0;
-    while i < n {
+    for i in 0..n {
         let f = flag_at(q, r, i);
-        let s = sum_at(f, wa, ia, wb, ib);
-        over = either(over, is_outside(s));
-        ia += (f % 2) as usize;
-        ib += (f / 2) as usize;
-        i += 1;
+        over |= sum_at(f, wa, ia, wb, ib).is_none();
+        ia += usize::from(f % 2);
+        ib += usize::from(f / 2);
     }
     over
 }
@@ -116,14 +87,11 @@ fn write_sums(q: &[u8], r: RecordIndex, wa: &[i32], wb: &[i32], list: &mut [i32]
 {
     let mut ia: usize = 0;
     let mut ib: usize = 0;
-    let mut i = 0;
-    while i < list.len() {
+    for i in 0..list.len() {
         let f = flag_at(q, r, i);
-        let s = sum_at(f, wa, ia, wb, ib);
-        list[i] = s as i32;
-        ia += (f % 2) as usize;
-        ib += (f / 2) as usize;
-        i += 1;
+        list[i] = sum_at(f, wa, ia, wb, ib).unwrap();
+        ia += usize::from(f % 2);
+        ib += usize::from(f / 2);
     }
 }
 
@@ -134,27 +102,14 @@ fn write_kept(q: &[u8], r: RecordIndex, n: usize, wa: &[i32], list: &mut [i32])
 {
     let mut ia: usize = 0;
     let mut k: usize = 0;
-    let mut i = 0;
-    while i < n {
+    for i in 0..n {
         let f = flag_at(q, r, i);
         let x = weight_at(wa, ia);
         if k < list.len() {
             list[k] = x;
         }
-        ia += (f % 2) as usize;
-        k += (f == restrict::FIRST_ONLY) as usize;
-        i += 1;
-    }
-}
-
-// Writes zeros.
-fn clear(list: &mut [i32])
-    ensures { list.new ≡ tabulate (λ (i : ℕ). no_weight) (length list.old) }
-{
-    let mut i = 0;
-    while i < list.len() {
-        list[i] = 0;
-        i += 1;
+        ia += usize::from(f % 2);
+        k += usize::from(f == restrict::FIRST_ONLY);
     }
 }
 
@@ -172,13 +127,13 @@ fn post_at(list: &mut [i32], k: usize, amount: i32) -> Posting
     requires { k < length list.old }
     ensures { posting_outcome result list.new ≡ posted_at list.old k amount }
 {
-    let old = list[k];
-    let s = sum(old, amount);
-    if is_outside(s) {
-        return Posting::Refused(refusal::OVERFLOW);
+    match list[k].checked_add(amount) {
+        None => Posting::Refused(refusal::OVERFLOW),
+        Some(sum) => {
+            list[k] = sum;
+            Posting::Posted
+        }
     }
-    list[k] = s as i32;
-    Posting::Posted
 }
 
 // Behind the check: 16, then 8, then 17.
@@ -240,7 +195,7 @@ fn write_packed(
     match packed {
         Written::Refused(k) => Written::Refused(k),
         Written::Length(size) => {
-            clear(&mut list[..n]);
+            list[..n].fill(0);
             Written::Length(size)
         }
     }
@@ -264,7 +219,7 @@ fn either_short(m: usize, b: usize, n: usize, room: usize, places: usize) -> boo
     requires { (m ≤ max_width) × (b ≤ max_edges) }
     ensures { result ≡ (ltb room (end_of m b) || ltb places n) }
 {
-    either(build::too_short(m, b, room), places < n)
+    build::too_short(m, b, room) || places < n
 }
 
 // The union's encoding and its list, from what merging left in the queue: 5, 14, 17.
