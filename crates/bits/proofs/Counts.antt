@@ -62,13 +62,15 @@ byte_more l n =
     let z : 8 * suc n ≡ 8 * n + 8 = omega arith in
     ap (bits_in l) z ∙ bits_more l n 8 ∙ ap (λ x. bits_in l (8 * n) ++ x) (byte_bits l n 8 (omega arith))
 
--- from a byte on, one byte more
-pub byte_behind : (l : Bytes) (from i : ℕ) → from ≤ i
-    → ones (bits_in (drop from l) (8 * (i + 1 - from))) ≡ ones (bits_in (drop from l) (8 * (i - from))) + ones (bits8 (get_or l i 0))
-byte_behind l from i h =
-    let z : i + 1 - from ≡ suc (i - from) = omega arith in
-    let q : from + (i - from) ≡ i = omega arith in
-    rw (z, byte_more (drop from l) (i - from), ones_append, get_or-drop from l (i - from) 0, q)
+-- one byte more is counted
+pub byte_counted : (l : Bytes) (i n k : ℕ) → n ≡ ones (bits_in l (8 * i)) → k ≡ ones (bits8 (get_or l i 0)) → n + k ≡ ones (bits_in l (8 * (i + 1)))
+byte_counted l i n k e q =
+    let z : i + 1 ≡ suc i = omega arith in
+    rw (z, byte_more l i, ones_append, e, q)
+
+pub byte_ones_le : (x : ℕ) → ones (bits8 x) ≤ 8
+unfolding bits8
+byte_ones_le x = omega (arith, ones_le (bits8 x), length_tabulate (λ (j : ℕ). odd (x / 2 ^ (7 - j))) 8)
 
 -- ---- The first bits of a byte are the bits of what is left when it is shifted
 front_value : (x k : ℕ) → x < 256 → k ≤ 8 → bits_value (tabulate (λ (j : ℕ). odd (x / 2 ^ (7 - j))) k) 0 ≡ x / 2 ^ (8 - k)

@@ -1,6 +1,6 @@
 -- Laws of bits and numbers in bytes, for the code.
 pub mod Table
-pub mod Halves
+pub mod Value
 pub mod Counts
 pub mod Records
 pub mod Part

@@ -1,13 +1,15 @@
 -- A table that computes to its rule's values has that rule at every entry.
-use mathlib.Core.Path.{◌≡◌, sym, ap, ◌∙◌}
+use mathlib.Core.Path.{◌≡◌, refl, sym, ap, ◌∙◌}
 use Prim.Native.Nat.{ℕ, ◌<◌}
 use mathlib.Core.List.{List, [], map}
 use native.Mathlib.Omega.{arith}
 use lib.ListN.{length, get_or}
-use Rattle.loes.specs.Bytes.{tabulate}
+use Rattle.loes.specs.Bytes.{tabulate, odd}
+use Rattle.loes.specs.Edges.{ones}
 use Rattle.loes.proofs.Lists.{get_d_map_in}
 use Rattle.loes.proofs.Bytes.{length_tabulate, get_d_tabulate}
-use Rattle.bits.specs.Tables.{Table, Places, digit, place_of}
+use Rattle.bits.specs.declared.tables.TheConstants.{TALLIES, PLACES}
+use Rattle.bits.specs.Tables.{Table, Tallies, Places, tally_of, bits8, select, digit, place_of}
 
 pub computed : (f : ℕ → ℕ) (n : ℕ) → Table f n (tabulate f n)
 computed f n = record { size = length_tabulate f n; rule = λ i h. get_d_tabulate f n i 0 h }
@@ -25,3 +27,12 @@ rows t n e = record {
       sym (get_d_map_in (λ r. tabulate (digit r) 8) t x 0 [] (omega (arith, n))) ∙ ap (λ l. get_or l x []) e ∙ get_d_tabulate (λ x. tabulate (place_of x) 8) 256 x [] hx in
       pointwise 0 (digit (get_or t x 0)) (place_of x) 8 z k hk;
 }
+
+-- ---- The two tables of the code
+pub tallies : Tallies TALLIES
+unfolding tabulate odd ones bits8
+tallies = computed tally_of 256
+
+pub places : Places PLACES
+unfolding tabulate odd bits8 select digit
+places = rows PLACES refl refl

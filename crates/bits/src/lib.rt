@@ -7,10 +7,12 @@ ghost use Rattle.loes.specs.Bytes.{started, bit_at, bits_in, number_at};
 ghost use Rattle.loes.specs.Edges.{ones};
 ghost use Rattle.loes.specs.Entry.{key_bytes};
 ghost use Rattle.loes.specs.Model.{unused_set};
-ghost use Rattle.bits.specs.Tables.{place_of, Places, Tallies};
+ghost use Rattle.bits.specs.Tables.{bits8, place_of};
 ghost use Rattle.bits.specs.Words.{word_in};
 
 pub mod tables;
+
+use tables::{PLACES, TALLIES};
 
 // Three separate counts: a call that wants one does not take another.
 // An offset in the edge sequence.
@@ -65,36 +67,16 @@ pub const BYTE: usize = 256;
 
 pub const TWO_BYTES: usize = BYTE * BYTE;
 
-// The number in two bytes at a place, most significant byte first.
-pub fn number2(l: &[u8], at: usize) -> usize
-    requires { at + 2 ≤ length l.now }
-    ensures { (result ≡ number_at 2 l.now at) × (result < 2 ^ 16) }
+// The number in K bytes at a place, most significant byte first: a load and a turn of its bytes when compiled.
+pub fn number<const K: usize>(l: &[u8], at: usize) -> usize
+    requires { (K ≤ 8) × (at + K ≤ length l.now) }
+    ensures { (result ≡ number_at K l.now at) × (result < 256 ^ K) }
 {
-    (l[at] as usize) * BYTE + (l[at + 1] as usize)
-}
-
-// In four.
-pub fn number4(l: &[u8], at: usize) -> usize
-    requires { at + 4 ≤ length l.now }
-    ensures { (result ≡ number_at 4 l.now at) × (result < 2 ^ 32) }
-{
-    number2(l, at) * TWO_BYTES + number2(l, at + 2)
-}
-
-// In eight: their word with its bytes turned round, which is two instructions when compiled.
-pub fn number8(l: &[u8], at: usize) -> usize
-    requires { at + 8 ≤ length l.now }
-    ensures { result ≡ number_at 8 l.now at }
-{
-    let x = word(l, at) as usize;
-    ((x % BYTE) << 56)
-        | (((x >> 8) % BYTE) << 48)
-        | (((x >> 16) % BYTE) << 40)
-        | (((x >> 24) % BYTE) << 32)
-        | (((x >> 32) % BYTE) << 24)
-        | (((x >> 40) % BYTE) << 16)
-        | (((x >> 48) % BYTE) << 8)
-        | ((x >> 56) % BYTE)
+    let mut n: usize = 0;
+    for x in &l[at..at + K] {
+        n = n * BYTE + *x as usize;
+    }
+    n
 }
 
 // Eight bytes as one word, the first byte the lowest: one load when compiled.
@@ -102,14 +84,16 @@ pub fn word(l: &[u8], at: usize) -> u64
     requires { at + 8 ≤ length l.now }
     ensures { result ≡ word_in (drop at l.now) 8 }
 {
-    (l[at] as u64)
-        | ((l[at + 1] as u64) << 8)
-        | ((l[at + 2] as u64) << 16)
-        | ((l[at + 3] as u64) << 24)
-        | ((l[at + 4] as u64) << 32)
-        | ((l[at + 5] as u64) << 40)
-        | ((l[at + 6] as u64) << 48)
-        | ((l[at + 7] as u64) << 56)
+    u64::from_le_bytes([
+        l[at],
+        l[at + 1],
+        l[at + 2],
+        l[at + 3],
+        l[at + 4],
+        l[at + 5],
+        l[at + 6],
+        l[at + 7],
+    ])
 }
 
 // The same of fewer bytes that have eight up to their end: the bytes before them are shifted out.
@@ -129,49 +113,39 @@ pub fn word_ones(l: &[u8], at: usize) -> usize
     u64::count_ones(word(l, at)) as usize
 }
 
-// The set bits of bytes from..upto, at most a sub-block of them, by the table.
-pub fn tally_bytes(l: &[u8], t: &[u8], from: usize, upto: usize) -> usize
-    requires { (from ≤ upto) × (upto ≤ length l.now) × (upto ≤ from + sub_block_size) × Tallies t.now }
+// The set bits of a byte, by the table.
+pub fn tally(x: u8) -> usize
+    ensures { (result ≡ ones (bits8 x)) × (result ≤ 8) }
+{
+    TALLIES[x as usize] as usize
+}
+
+// The set bits of bytes from..upto, at most a sub-block of them.
+pub fn tally_bytes(l: &[u8], from: usize, upto: usize) -> usize
+    requires { (from ≤ upto) × (upto ≤ length l.now) × (upto ≤ from + sub_block_size) }
     ensures { (result ≡ ones (bits_in (drop from l.now) (8 * (upto - from)))) × (result ≤ sub_block_bits) }
 {
     let mut sum: usize = 0;
-    let mut i = from;
-    while i < upto {
-        let x = l[i] as usize;
-        sum += t[x] as usize;
-        i += 1;
+    for x in &l[from..upto] {
+        sum += tally(*x);
     }
     sum
 }
 
-// The set bits among the first k of byte `at`, by the table: the bits behind them are shifted out.
-pub fn tally_part(l: &[u8], t: &[u8], at: usize, k: usize) -> usize
-    requires { (at < length l.now) × (k ≤ 8) × Tallies t.now }
+// The set bits among the first k of byte `at`: the bits behind them are shifted out.
+pub fn tally_part(l: &[u8], at: usize, k: usize) -> usize
+    requires { (at < length l.now) × (k ≤ 8) }
     ensures { (result ≡ ones (bits_in (drop at l.now) k)) × (result ≤ k) }
 {
     let x = (l[at] as usize) >> (8 - k);
-    t[x] as usize
-}
-
-// The table of tallies, to be bound once and lent.
-pub fn tallies() -> [u8; 256]
-    ensures { Tallies result }
-{
-    tables::TALLIES
-}
-
-// The table of places, to be bound once and lent.
-pub fn places() -> [u32; 256]
-    ensures { Places result }
-{
-    tables::PLACES
+    TALLIES[x] as usize
 }
 
 // The place of set bit number k of a byte, or 8 if it has none, by the table.
-pub fn place(places: &[u32], x: u8, k: usize) -> usize
-    requires { Places places.now × (k < 8) }
+pub fn place(x: u8, k: usize) -> usize
+    requires { k < 8 }
     ensures { result ≡ place_of x k }
 {
-    let row = places[x as usize];
+    let row = PLACES[x as usize];
     ((row >> (4 * (7 - k))) % 16) as usize
 }

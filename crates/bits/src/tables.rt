@@ -1,6 +1,6 @@
 // The constant tables.
 // For each byte: its set bits.
-pub const TALLIES: [u8; 256] = [
+pub static TALLIES: [u8; 256] = [
     0, 1, 1, 2, 1, 2, 2, 3, 1, 2, 2, 3, 2, 3, 3, 4, 1, 2, 2, 3, 2, 3, 3, 4, 2, 3, 3, 4, 3, 4, 4, 5,
     1, 2, 2, 3, 2, 3, 3, 4, 2, 3, 3, 4, 3, 4, 4, 5, 2, 3, 3, 4, 3, 4, 4, 5, 3, 4, 4, 5, 4, 5, 5, 6,
     1, 2, 2, 3, 2, 3, 3, 4, 2, 3, 3, 4, 3, 4, 4, 5, 2, 3, 3, 4, 3, 4, 4, 5, 3, 4, 4, 5, 4, 5, 5, 6,
@@ -12,7 +12,7 @@ pub const TALLIES: [u8; 256] = [
 ];
 
 // For each byte and each k from 0 to 7, digit k of eight: the place of its set bit number k, counted from 0 at the most significant bit, or 8 if it has none.
-pub const PLACES: [u32; 256] = [
+pub static PLACES: [u32; 256] = [
     0x88888888, 0x78888888, 0x68888888, 0x67888888, 0x58888888, 0x57888888, 0x56888888, 0x56788888,
     0x48888888, 0x47888888, 0x46888888, 0x46788888, 0x45888888, 0x45788888, 0x45688888, 0x45678888,
     0x38888888, 0x37888888, 0x36888888, 0x36788888, 0x35888888, 0x35788888, 0x35688888, 0x35678888,

@@ -1,67 +1,33 @@
 -- Reading the fields: what the code finds is the first test to hold.
 use mathlib.Core.Path.{◌≡◌, refl, sym, ap, ◌∙◌}
-use Prim.Native.Nat.{ℕ, zero, suc, ◌≤◌, ◌<◌}
-use mathlib.Core.Bool.{Bool, true, false, ◌&&◌, cond, not, or-true}
+use Prim.Native.Nat.{ℕ, ◌+◌, ◌-◌, ◌*◌, ◌≤◌, ◌<◌}
+use mathlib.Core.Bool.{Bool, true, false, not, or-true}
 use mathlib.Core.List.{List, [], ◌∷◌, flatten}
 use mathlib.Core.Option.{Option, none, some}
 use native.Mathlib.Omega.{arith}
 use lib.ListN.{length}
 use lib.Dec.{ltb}
 use Rattle.loes.specs.Refusals.{Tests, test, first_of}
-use Rattle.loes.specs.Limits.{max_width, max_edges, count_bytes}
-use Rattle.loes.specs.Bytes.{Bytes, same_numbers}
+use Rattle.loes.specs.Limits.{max_width, max_edges, count_bytes, level_entry}
+use Rattle.loes.specs.Bytes.{Bytes, number_at, same_numbers}
 use Rattle.loes.specs.Entry.{wrong_width, too_many_edges}
 use Rattle.loes.specs.Encode.{encode}
-use Rattle.loes.specs.Read.{level_bytes, start2, start3, start4, width_in, edge_count_in, entry_in, field_tests, head_tests, tail_tests, read_tests, rejected, opened, reading_of, read}
+use Rattle.loes.specs.Read.{level_bytes, body_at, start2, start3, start4, width_in, edge_count_in, entry_in, field_tests, head_tests, tail_tests, read_tests, rejected, opened, reading_of, read}
 use Rattle.loes.proofs.Tests.{lt_yes, lt_no, no_lt, neither, none_append, none_test, none_first, some_first}
 use Rattle.loes.proofs.Reading.{field_fits}
 use Rattle.encoding.specs.declared.Encoding.{Encoding}
-use Rattle.encoding.specs.declared.Laid.TheVariants.{Length, Refused}
-use Rattle.encoding.specs.Fields.{refusal_of, body_bytes, laid_by, Fields}
-
--- ---- A tag
--- a tag whose turn may come says its length
-tag_in : (t m b : ℕ) → 0 < t → t < 7 → laid_by t m b ≡ Length (body_bytes t m b)
-unfolding laid_by
-tag_in t m b p q = rw (lt_yes 0 t p, lt_yes t 7 q)
-
-pub tag_length : (t m b n : ℕ) → 0 < t → t < 7 → laid_by t m b ≡ Length n → n ≡ body_bytes t m b
-tag_length t m b n p q h = let i = tag_in t m b p q in cc
-
--- a tag that says the refusal is none of the turns
-pub tag_refused : (t m b k : ℕ) → laid_by t m b ≡ Refused k → (k ≡ 2) × ((u : ℕ) → 0 < u → u < 7 → t ≡ u → ⊥)
-tag_refused t m b k h = (
-  go (ltb 0 t && ltb t 7) (unfold laid_by in h),
-  λ u p q e.
-      let i : laid_by t m b ≡ Length (body_bytes t m b) = tag_in t m b (omega arith) (omega arith) in
-      let z : ◌≡◌ {A = ℕ} 0 1 = cc in
-      omega arith,
-)
-  where
-    go : (c : Bool) → cond c (Length (body_bytes t m b)) (Refused 2) ≡ Refused k → k ≡ 2
-    go false e = cc
-    go true e = let z : ◌≡◌ {A = ℕ} 0 1 = cc in absurd (let y : ⊥ = omega arith in y)
+use Rattle.encoding.specs.Fields.{Fields}
 
 -- ---- Tests behind tests
-some_of : (k : ℕ) → (k ≡ 0 → ⊥) → refusal_of k ≡ some k
-some_of zero h = absurd (h refl)
-some_of (suc k) h = refl
-
 -- the first part refuses
 pub stops : (k : ℕ) (a : Tests) (rest : List Tests) → first_of a ≡ some k → some k ≡ first_of (flatten (a ∷ rest))
 unfolding flatten
 stops k a rest e = sym (some_first a (flatten rest) k e)
 
-pub refuses : (k : ℕ) (a : Tests) (rest : List Tests) → (k ≡ 0 → ⊥) → refusal_of k ≡ first_of a → refusal_of k ≡ first_of (flatten (a ∷ rest))
-refuses k a rest h e = some_of k h ∙ stops k a rest (sym e ∙ some_of k h)
-
 -- the first part passes
 pub passes : {x : Option ℕ} (a : Tests) (rest : List Tests) → first_of a ≡ none → x ≡ first_of (flatten rest) → x ≡ first_of (flatten (a ∷ rest))
 unfolding flatten
 passes a rest e h = h ∙ sym (none_first a (flatten rest) e)
-
-pub passed_by : (k : ℕ) (a : Tests) → refusal_of k ≡ first_of a → k ≡ 0 → first_of a ≡ none
-passed_by k a e z = sym e ∙ ap refusal_of z
 
 pub all_passed : none ≡ first_of (flatten [])
 unfolding flatten first_of
@@ -105,18 +71,22 @@ head_facts l h =
     )
 
 -- ---- Reading
+-- b is the end of the last level
+pub edge_count_read : (l : Bytes) (m k : ℕ) → m ≡ width_in l → k ≡ number_at level_entry l (body_at start3 + level_entry * (m - 1)) → k ≡ edge_count_in l
+unfolding edge_count_in
+edge_count_read l m k h e = rw h at e
+
 rejected_by : (l : Bytes) (k : ℕ) → some k ≡ first_of (read_tests l) → read l ≡ rejected k
 unfolding read reading_of
 rejected_by l k e = rw (← e)
 
-pub head_rejects : (l : Bytes) (k : ℕ) → (k ≡ 0 → ⊥) → refusal_of k ≡ first_of (head_tests l) → read l ≡ rejected k
+pub head_rejects : (l : Bytes) (k : ℕ) → first_of (head_tests l) ≡ some k → read l ≡ rejected k
 unfolding read_tests
-head_rejects l k h e = rejected_by l k (sym (some_of k h) ∙ refuses k _ _ h e)
+head_rejects l k e = rejected_by l k (stops k _ _ e)
 
-pub tail_rejects : (l : Bytes) (k : ℕ) → first_of (head_tests l) ≡ none → (k ≡ 0 → ⊥)
-    → refusal_of k ≡ first_of (tail_tests (width_in l) (edge_count_in l) l) → read l ≡ rejected k
+pub tail_rejects : (l : Bytes) (k : ℕ) → first_of (head_tests l) ≡ none → first_of (tail_tests (width_in l) (edge_count_in l) l) ≡ some k → read l ≡ rejected k
 unfolding read_tests
-tail_rejects l k z h e = rejected_by l k (sym (some_of k h) ∙ passes _ _ z (refuses k _ _ h e))
+tail_rejects l k z e = rejected_by l k (passes _ _ z (stops k _ _ e))
 
 -- the last test is 7
 pub rejects_7 : (l : Bytes) (e : Encoding) → Fields l e → same_numbers l (encode (entry_in l)) ≡ false → read l ≡ rejected 7

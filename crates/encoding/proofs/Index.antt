@@ -87,3 +87,11 @@ counted_rank l e (suc o) r c h =
 -- at every offset of every encoding
 pub counting_ranks : CountingRanks
 counting_ranks l e p o h = counted_rank l e o (opens_room l e p) (opens_counted l e p) h ∙ ap (λ x. rank x o) (opens_edges l e p)
+
+-- the bytes that the counting is lent, as the code takes them
+pub lent_part : (l : Bytes) (e : Encoding) (last : ℕ) → let from = e.edges + 64 * (last / 512) in take (e.edges + last / 8 + 1 - from) (drop from l) ≡ lent l e last
+unfolding lent
+lent_part l e last =
+    let from : ℕ = e.edges + 64 * (last / 512) in
+    let z : e.edges + last / 8 + 1 - from ≡ last % 512 / 8 + 1 = omega arith in
+    ap (λ n. take n (drop from l)) z

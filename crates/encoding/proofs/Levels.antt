@@ -9,7 +9,13 @@ use lib.ListN.{length}
 use lib.Seq.{take_all}
 use Rattle.loes.specs.Edges.{ones, rank}
 use Rattle.loes.specs.Prefixes.{roots, ends}
+use Rattle.loes.specs.Limits.{max_edges}
+use Rattle.loes.specs.Bytes.{Bytes}
 use Rattle.loes.proofs.Lists.{rank_le}
+use Rattle.loes.proofs.Ends.{ends_grow}
+use Rattle.encoding.specs.declared.Encoding.{Encoding}
+use Rattle.encoding.specs.Opened.{edges_at}
+use Rattle.encoding.proofs.Opened.{length_edges_at}
 
 -- the end of level d, and the set bits before it
 pub end_is : (c : ℕ) (e : List Bool) (d n : ℕ) → n ≡ rank e (ends c e d) → 2 * (c + n) ≡ ends c e (suc d)
@@ -46,3 +52,24 @@ pub level_count : (c : ℕ) (e : List Bool) (b d from start n r : ℕ) → lengt
 level_count c e b d from start n r z v h =
     let s : start ≡ min (ends c e d) (length e) = v.begins ∙ ap (min (ends c e d)) (sym z) in
     h ∙ ap (rank e) s ∙ stop_is e (ends c e d)
+
+-- the end of level d, as the code makes it of the records so far, and the level behind it
+module _ (l : Bytes) (e : Encoding) (d from start n r k : ℕ) (few : e.bits ≤ max_edges) (v : Level (roots e.bits) (edges_at l e) e.bits d from start n) (h : k ≡ rank (edges_at l e) start) (q : r ≡ roots e.bits) where
+  counted : k ≡ rank (edges_at l e) (ends (roots e.bits) (edges_at l e) d)
+  counted = level_count (roots e.bits) (edges_at l e) e.bits d from start n k (length_edges_at l e) v h
+
+  pub end_few : k ≤ max_edges
+  end_few = omega (arith, counted, (rank_le (edges_at l e) (ends (roots e.bits) (edges_at l e) d)).1, length_edges_at l e, few)
+
+  pub end_here : 2 * (r + k) ≡ ends (roots e.bits) (edges_at l e) (suc d)
+  end_here = ap (λ x. 2 * (x + k)) q ∙ end_is (roots e.bits) (edges_at l e) d k counted
+
+  pub level_next : (end : ℕ) → end ≡ 2 * (r + k) → Level (roots e.bits) (edges_at l e) e.bits (d + 1) start (min end e.bits) k
+  level_next end z =
+      let y : suc d ≡ d + 1 = omega arith in
+      let x : end ≡ ends (roots e.bits) (edges_at l e) (suc d) = z ∙ end_here in
+      record {
+        ordered = omega (arith, v.begins, x, ends_grow (roots e.bits) (edges_at l e) d);
+        begins = ap (λ n. min n e.bits) (x ∙ ap (ends (roots e.bits) (edges_at l e)) y);
+        count = h;
+      }

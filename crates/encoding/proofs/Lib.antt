@@ -1,6 +1,7 @@
 -- Laws of opened encodings.
 pub mod Opened
 pub mod Index
+pub mod SubBlock
 pub mod Fields
 pub mod Pass
 pub mod Levels

@@ -5,11 +5,11 @@ use mathlib.Core.Bool.{false}
 use native.Mathlib.Omega.{arith}
 use native.Mathlib.Nat.{le-div_iff_mul-le, mul_comm, suc-mul}
 use lib.ListN.{length, drop, get_or, length-drop}
-use Rattle.loes.specs.Limits.{max_width, max_edges, block_bits, sub_block_bits, block_entry, sub_block_entry}
-use Rattle.loes.specs.Bytes.{Bytes, started, bit_at, bits_in}
+use Rattle.loes.specs.Limits.{max_width, max_edges, count_bytes, block_bits, sub_block_bits, block_entry, sub_block_entry}
+use Rattle.loes.specs.Bytes.{Bytes, started, number_at, bit_at, bits_in}
 use Rattle.loes.specs.Entry.{Entry, edges_of, edge_count, Valid}
 use Rattle.loes.specs.Encode.{block_ones, sub_block_ones, level_end, encode}
-use Rattle.loes.specs.Read.{start4, start5, start6, end_of, level_at, block_at, sub_block_at, edges_in, entry_along, entry_in}
+use Rattle.loes.specs.Read.{body_at, start2, width_in, edge_count_in, start4, start5, start6, end_of, level_at, block_at, sub_block_at, edges_in, entry_along, entry_in}
 use Rattle.loes.specs.Held.{entry_held, Holds}
 use Rattle.loes.proofs.Lent.{end_most}
 use Rattle.loes.proofs.Bytes.{get_d_tabulate}
@@ -31,6 +31,11 @@ placed_self m n b e p =
       blocks = rw (p.width, p.bits) p.blocks;
       sub_blocks = rw (p.width, p.bits) p.sub_blocks;
     }
+
+-- what the code reads are the numbers of the fields
+pub placed_by : (l : Bytes) {m n b : ℕ} {e : Encoding} → m ≡ width_in l → b ≡ edge_count_in l → n ≡ number_at count_bytes l (body_at start2) → Placed m n b e
+    → Placed (width_in l) (number_at count_bytes l (body_at start2)) (edge_count_in l) e
+placed_by l h k q p = rw (← h, ← k, ← q) p
 
 pub placed_room : (l : Bytes) (m n b : ℕ) (e : Encoding) → m ≤ max_width → b ≤ max_edges → Placed m n b e → length l ≡ end_of m b → FieldsFit l e
 unfolding end_of start6 start5 start4

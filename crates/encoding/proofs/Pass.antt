@@ -1,24 +1,24 @@
 -- The pass over the whole edge bytes.
 use mathlib.Core.Path.{◌≡◌, refl, sym, ap, ap₂, ◌∙◌}
 use Prim.Native.Nat.{ℕ, suc, ◌+◌, ◌-◌, ◌*◌, ◌/◌, ◌%◌, ◌≤◌, ◌<◌, min}
-use mathlib.Core.Bool.{Bool, true, ◌&&◌}
+use mathlib.Core.Bool.{Bool, true, false, ◌&&◌, not, false≢true}
 use mathlib.Core.List.{List}
 use native.Mathlib.Omega.{arith}
 use native.Mathlib.Decide.{dec_le}
 use lib.ListN.{length, drop}
 use lib.Seq.{drop-drop}
-use Rattle.loes.specs.Limits.{sub_block_bits, block_entry, sub_block_entry, sub_blocks}
+use Rattle.loes.specs.Limits.{max_edges, sub_block_bits, block_entry, sub_block_entry, sub_blocks}
 use Rattle.loes.specs.Bytes.{Bytes, tabulate, started, bits_in}
 use Rattle.loes.specs.Edges.{ones, rank}
 use Rattle.loes.specs.Encode.{block_ones, sub_block_ones}
 use Rattle.loes.specs.Read.{block_at, sub_block_at}
-use Rattle.loes.proofs.Tests.{both}
+use Rattle.loes.proofs.Tests.{both, not_false}
 use Rattle.bits.specs.Tables.{none_empty}
 use Rattle.bits.proofs.Counts.{rank_bits, ones_more, ones_bits_le}
 use Rattle.bits.proofs.Records.{full_more}
 use Rattle.encoding.specs.declared.Encoding.{Encoding}
 use Rattle.encoding.specs.Opened.{edges_at, FieldsFit, Counted}
-use Rattle.encoding.specs.Agree.{EntriesAt, BlockBase, WholeRight}
+use Rattle.encoding.specs.Agree.{Decides, EntriesAt, BlockBase, WholeRight}
 use Rattle.encoding.proofs.Opened.{room_at}
 use Rattle.encoding.proofs.Index.{sub_block_start}
 
@@ -154,3 +154,14 @@ module _ (l : Bytes) (e : Encoding) where
           ),
           rw z at g.count,
         )
+
+-- sub-block j, of which so many bytes are whole, told wrong or added up
+module _ (l : Bytes) (e : Encoding) (j n : ℕ) (g : Going l e j n) where
+  pub entries_wrong : {r : Bool} → sub_block_bits * j < e.bits → Decides r (EntriesAt l e j n) → not r ≡ true → WholeRight l e → ⊥
+  entries_wrong h t z w = false≢true (sym (ap not (t.1 (entries_of l e j n g h w.0))) ∙ z)
+
+  pub entries_right : {r : Bool} → Decides r (EntriesAt l e j n) → not r ≡ false → EntriesAt l e j n
+  entries_right {r} t z = t.0 (not_false r z)
+
+  pub sum_few : (size k : ℕ) → size ≤ 64 → k ≡ ones (bits_in (drop (e.edges + 64 * j) l) (8 * size)) → e.bits ≤ max_edges → n + k ≤ max_edges + 512
+  sum_few size k u p few = omega (arith, p, ones_bits_le (drop (e.edges + 64 * j) l) (8 * size), count_le l e j n g)

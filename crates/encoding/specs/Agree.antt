@@ -1,5 +1,5 @@
 -- What the check of 7 finds, part by part.
-use Rattle.std.specs.Prelude.{◌≡◌, ℕ, suc, ◌+◌, ◌*◌, ◌/◌, ◌%◌, ◌^◌, ◌-◌, ◌<◌, ◌≤◌, Bool, true, get_or, drop}
+use Rattle.std.specs.Prelude.{◌≡◌, ℕ, suc, ◌+◌, ◌*◌, ◌/◌, ◌%◌, ◌^◌, ◌-◌, ◌<◌, ◌≤◌, Bool, true, get_or, drop, Option, Some, None}
 use Rattle.loes.specs.Limits.{sub_blocks}
 use Rattle.loes.specs.Bytes.{Bytes, bits_in}
 use Rattle.loes.specs.Edges.{ones}
@@ -7,8 +7,6 @@ use Rattle.loes.specs.Prefixes.{roots, ends}
 use Rattle.loes.specs.Read.{level_at, block_at, sub_block_at}
 use Rattle.bits.specs.Tables.{none_empty}
 use Rattle.encoding.specs.declared.Encoding.{Encoding}
-use Rattle.encoding.specs.declared.Tallied.{Tallied}
-use Rattle.encoding.specs.declared.Tallied.TheVariants.{Wrong, Ones}
 use Rattle.encoding.specs.Opened.{edges_at, Counted}
 
 -- a Bool that tells whether something holds
@@ -32,17 +30,17 @@ abbrev pub near : ℕ
 near = 256
 
 -- the first n bytes: no record is empty, and so many bits are set
-abbrev pub BytesTallied : Bytes → ℕ → Tallied → Type 0
-BytesTallied l n (Ones k) = (none_empty (bits_in l (8 * n)) ≡ true) × (k ≡ ones (bits_in l (8 * n)))
-BytesTallied l n Wrong = none_empty (bits_in l (8 * n)) ≡ true → ⊥
+abbrev pub BytesTallied : Bytes → ℕ → Option ℕ → Type 0
+BytesTallied l n (Some k) = (none_empty (bits_in l (8 * n)) ≡ true) × (k ≡ ones (bits_in l (8 * n)))
+BytesTallied l n None = none_empty (bits_in l (8 * n)) ≡ true → ⊥
 
 -- the whole edge bytes: fields 5 and 6 are right, no record is empty, and so many bits are set
 abbrev pub WholeRight : Bytes → Encoding → Type 0
 WholeRight l e = Counted l e × (none_empty (bits_in (drop e.edges l) (8 * (e.bits / 8))) ≡ true)
 
-abbrev pub Whole : Bytes → Encoding → Tallied → Type 0
-Whole l e (Ones n) = WholeRight l e × (n ≡ ones (bits_in (drop e.edges l) (8 * (e.bits / 8))))
-Whole l e Wrong = WholeRight l e → ⊥
+abbrev pub Whole : Bytes → Encoding → Option ℕ → Type 0
+Whole l e (Some n) = WholeRight l e × (n ≡ ones (bits_in (drop e.edges l) (8 * (e.bits / 8))))
+Whole l e None = WholeRight l e → ⊥
 
 -- the edges behind the whole bytes
 unfoldable pub last_edges : Bytes → Encoding → Bytes
@@ -54,9 +52,9 @@ LastRight l e =
     (0 < e.bits % 8 → get_or (drop e.edges l) (e.bits / 8) 0 % 2 ^ (8 - e.bits % 8) ≡ 0)
     × (none_empty (bits_in (last_edges l e) (e.bits % 8)) ≡ true)
 
-abbrev pub Last : Bytes → Encoding → Tallied → Type 0
-Last l e (Ones n) = LastRight l e × (n ≡ ones (bits_in (last_edges l e) (e.bits % 8)))
-Last l e Wrong = LastRight l e → ⊥
+abbrev pub Last : Bytes → Encoding → Option ℕ → Type 0
+Last l e (Some n) = LastRight l e × (n ≡ ones (bits_in (last_edges l e) (e.bits % 8)))
+Last l e None = LastRight l e → ⊥
 
 -- field 3 has the ends of the levels
 abbrev pub Levelled : Bytes → Encoding → Type 0

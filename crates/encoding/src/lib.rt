@@ -1,7 +1,7 @@
 // An opened encoding: reading the fields, the full check, and rank behind it.
 #![tactic(auto)]
 
-ghost use Rattle.std.specs.Prelude.{ℕ, ◌+◌, ◌-◌, ◌*◌, ◌/◌, ◌%◌, ◌^◌, ◌<◌, ◌≤◌, min, ◌≡◌, false, length, drop, get_or};
+ghost use Rattle.std.specs.Prelude.{ℕ, ◌+◌, ◌-◌, ◌*◌, ◌/◌, ◌%◌, ◌^◌, ◌<◌, ◌≤◌, ◌≡◌, false, length, drop, get_or};
 ghost use Rattle.loes.specs.Limits.{max_width, max_edges, sub_block_bits, sub_blocks, sub_block_size};
 ghost use Rattle.loes.specs.Bytes.{same_numbers};
 ghost use Rattle.loes.specs.Edges.{rank};
@@ -11,18 +11,22 @@ ghost use Rattle.loes.specs.Encode.{level_end, encode};
 ghost use Rattle.loes.specs.Refusals.{first_of};
 ghost use Rattle.loes.specs.Read.{level_bytes, body_at, start3, start4, end_of, level_at, entry_in, field_tests, head_tests, tail_tests};
 ghost use Rattle.loes.specs.Calls.{open_call, rank_call};
-ghost use Rattle.bits.specs.Tables.{Tallies};
 ghost use Rattle.bits.specs.Words.{Scanned};
-ghost use Rattle.encoding.specs.Opened.{Opens, Placed, FieldsFit, Counted, edges_at};
-ghost use Rattle.encoding.specs.Fields.{refusal_of, body_bytes, laid_by, Fields, Parsed, Checks};
+ghost use Rattle.encoding.specs.Opened.{Placed, FieldsFit, Counted, edges_at};
+ghost use Rattle.encoding.specs.Fields.{tag_of, body_bytes, refusal_of, Fields, Parsed, Checks};
 ghost use Rattle.encoding.specs.Counting.{count_sub_block, counted_to, BlockFits};
 ghost use Rattle.encoding.specs.Agree.{Decides, EntriesAt, BlockBase, near, BytesTallied, Whole, Last, Levelled};
 ghost use Rattle.encoding.specs.Answers.{told_outcome, ranked_outcome};
 
-use bits::EdgeOffset;
-use loes::refusal;
+pub mod field;
+pub mod opening;
 
-// An opened encoding (document 01: an opened book): its numbers, and where the bodies of fields 4 to 6 begin.
+use bits::EdgeOffset;
+use field::Field;
+use loes::Refusal;
+use opening::Opened;
+
+// The numbers of an encoding, and where the bodies of fields 4 to 6 begin.
 #[derive(Clone, Copy)]
 pub struct Encoding {
     // m
@@ -109,133 +113,91 @@ pub fn end_of(e: Encoding) -> usize
 }
 
 // ---- Reading the fields
-// What a tag says: the length laid down for its field's body, or the refusal.
-#[derive(Clone, Copy)]
-pub enum Laid {
-    Length(usize),
-    Refused(u8),
-}
-
-fn laid_by(tag: u8, width: usize, bits: usize) -> Laid
-    requires { (width ≤ max_width) × (bits ≤ max_edges) }
-    ensures { result ≡ laid_by tag width bits }
-{
-    match tag {
-        1 => Laid::Length(Encoding::WIDTH_BYTES),
-        2 => Laid::Length(Encoding::COUNT_BYTES),
-        3 => Laid::Length(Encoding::LEVEL_ENTRY * width),
-        4 => Laid::Length(bits::bytes_for(bits)),
-        5 => Laid::Length(Encoding::BLOCK_ENTRY * bits::started_by(bits, Encoding::BLOCK_BITS)),
-        6 => Laid::Length(
-            Encoding::SUB_BLOCK_ENTRY * bits::started_by(bits, Encoding::SUB_BLOCK_BITS),
-        ),
-        0 | 7..=255 => Laid::Refused(refusal::WRONG_TAG),
-    }
-}
-
-// The first refusal of the field whose turn it is and which begins at a place, or 0: 1 for its head, 2, 3, 1 for its body.
-fn field_refusal(l: &[u8], at: usize, turn: u8, width: usize, bits: usize) -> u8
-    requires { (at ≤ length l.now) × (0 < turn) × (turn < 7) × (width ≤ max_width) × (bits ≤ max_edges) }
-    ensures { refusal_of result ≡ first_of (field_tests turn (body_bytes turn width bits) l.now at) }
+// Tests the field whose turn it is and which begins at a place: 1 for its head, 2, 3, 1 for its body.
+fn check_field(l: &[u8], at: usize, turn: Field, width: usize, bits: usize) -> Result<(), Refusal>
+    requires { (at ≤ length l.now) × (width ≤ max_width) × (bits ≤ max_edges) }
+    ensures { refusal_of result ≡ first_of (field_tests (tag_of turn) (body_bytes (tag_of turn) width bits) l.now at) }
 {
     let left = l.len() - at;
     if left < Encoding::HEAD_BYTES {
-        return refusal::TRUNCATED;
+        return Err(Refusal::Truncated);
     }
-    let tag = l[at];
-    match laid_by(tag, width, bits) {
-        Laid::Refused(k) => k,
-        Laid::Length(n) => {
-            if tag != turn {
-                return refusal::WRONG_TAG;
-            }
-            if bits::number2(l, at + Encoding::TAG_BYTES) != n {
-                return refusal::WRONG_LENGTH;
-            }
-            if left - Encoding::HEAD_BYTES < n {
-                return refusal::TRUNCATED;
-            }
-            0
-        }
+    if l[at] != turn.tag() {
+        return Err(Refusal::WrongTag);
     }
+    let n = turn.body_bytes(width, bits);
+    if bits::number::<2>(l, at + Encoding::TAG_BYTES) != n {
+        return Err(Refusal::WrongLength);
+    }
+    if left - Encoding::HEAD_BYTES < n {
+        return Err(Refusal::Truncated);
+    }
+    Ok(())
 }
 
-// The first refusal of fields 1 to 3, or 0: 4 follows field 1 and 5 follows field 3.
-fn head_refusal(l: &[u8]) -> u8
+// Tests fields 1 to 3: 4 follows field 1 and 5 follows field 3.
+fn check_head(l: &[u8]) -> Result<(), Refusal>
     ensures { refusal_of result ≡ first_of (head_tests l.now) }
 {
-    let first = field_refusal(l, 0, 1, 0, 0);
-    if first != 0 {
-        return first;
-    }
-    let width = bits::number2(l, Encoding::WIDTH_AT);
+    check_field(l, 0, Field::Width, 0, 0)?;
+    let width = bits::number::<2>(l, Encoding::WIDTH_AT);
     if width == 0 {
-        return refusal::BAD_WIDTH;
+        return Err(Refusal::BadWidth);
     }
     if Encoding::MAX_WIDTH < width {
-        return refusal::BAD_WIDTH;
+        return Err(Refusal::BadWidth);
     }
-    let second = field_refusal(l, Encoding::START2, 2, width, 0);
-    if second != 0 {
-        return second;
-    }
-    let third = field_refusal(l, Encoding::START3, 3, width, 0);
-    if third != 0 {
-        return third;
-    }
+    check_field(l, Encoding::START2, Field::Count, width, 0)?;
+    check_field(l, Encoding::START3, Field::Levels, width, 0)?;
     let last = Encoding::LEVELS_AT + Encoding::LEVEL_ENTRY * (width - 1);
-    if Encoding::MAX_EDGES < bits::number4(l, last) {
-        return refusal::TOO_LARGE;
+    if Encoding::MAX_EDGES < bits::number::<4>(l, last) {
+        return Err(Refusal::TooLarge);
     }
-    0
+    Ok(())
 }
 
-// The first refusal of fields 4 to 6, or 0; then 6.
-fn tail_refusal(l: &[u8], e: Encoding) -> u8
+// Tests fields 4 to 6, then 6.
+fn check_tail(l: &[u8], e: Encoding) -> Result<(), Refusal>
     requires { Placed e.width e.count e.bits e × (e.width ≤ max_width) × (e.bits ≤ max_edges) × (start4 e.width ≤ length l.now) }
     ensures { refusal_of result ≡ first_of (tail_tests e.width e.bits l.now) }
 {
-    let fourth = field_refusal(l, e.edges - Encoding::HEAD_BYTES, 4, e.width, e.bits);
-    if fourth != 0 {
-        return fourth;
-    }
-    let fifth = field_refusal(l, e.blocks - Encoding::HEAD_BYTES, 5, e.width, e.bits);
-    if fifth != 0 {
-        return fifth;
-    }
-    let sixth = field_refusal(l, e.sub_blocks - Encoding::HEAD_BYTES, 6, e.width, e.bits);
-    if sixth != 0 {
-        return sixth;
-    }
+    check_field(
+        l,
+        e.edges - Encoding::HEAD_BYTES,
+        Field::Edges,
+        e.width,
+        e.bits,
+    )?;
+    check_field(
+        l,
+        e.blocks - Encoding::HEAD_BYTES,
+        Field::Blocks,
+        e.width,
+        e.bits,
+    )?;
+    check_field(
+        l,
+        e.sub_blocks - Encoding::HEAD_BYTES,
+        Field::SubBlocks,
+        e.width,
+        e.bits,
+    )?;
     if end_of(e) < l.len() {
-        return refusal::TRAILING_BYTES;
+        return Err(Refusal::TrailingBytes);
     }
-    0
-}
-
-// An opened encoding, or the refusal.
-#[derive(Clone, Copy)]
-pub enum Checked {
-    Refused(u8),
-    Opened(Encoding),
+    Ok(())
 }
 
 // Every test before 7.
-fn parse(l: &[u8]) -> Checked
+fn parse(l: &[u8]) -> Result<Encoding, Refusal>
     ensures { Parsed l.now result }
 {
-    let head = head_refusal(l);
-    if head != 0 {
-        return Checked::Refused(head);
-    }
-    let width = bits::number2(l, Encoding::WIDTH_AT);
-    let bits = bits::number4(l, Encoding::LEVELS_AT + Encoding::LEVEL_ENTRY * (width - 1));
-    let e = Encoding::new(width, bits::number4(l, Encoding::COUNT_AT), bits);
-    let tail = tail_refusal(l, e);
-    if tail != 0 {
-        return Checked::Refused(tail);
-    }
-    Checked::Opened(e)
+    check_head(l)?;
+    let width = bits::number::<2>(l, Encoding::WIDTH_AT);
+    let bits = bits::number::<4>(l, Encoding::LEVELS_AT + Encoding::LEVEL_ENTRY * (width - 1));
+    let e = Encoding::new(width, bits::number::<4>(l, Encoding::COUNT_AT), bits);
+    check_tail(l, e)?;
+    Ok(e)
 }
 
 // ---- Rank
@@ -244,31 +206,29 @@ const NEAR: usize = 256;
 
 // The counting behind every rank of an opened encoding, of which it sees one entry of field 5, one of field 6 and at most 64 bytes of field 4: it counts the set ones among their first n bits.
 // The entries' sum and the part of the last byte are found once. Then few bytes are counted one by one, more by words: first those behind the last whole word, as one.
-fn count_sub_block(block: usize, sub_block: usize, edges: &[u8], t: &[u8], n: usize) -> usize
-    requires { (block ≤ max_edges) × (sub_block ≤ max_edges) × (0 < n) × (n ≤ 8 * length edges.now) × (length edges.now ≤ sub_block_size) × Tallies t.now }
+fn count_sub_block(block: usize, sub_block: usize, edges: &[u8], n: usize) -> usize
+    requires { (block ≤ max_edges) × (sub_block ≤ max_edges) × (0 < n) × (n ≤ 8 * length edges.now) × (length edges.now ≤ sub_block_size) }
     ensures { result ≡ count_sub_block block sub_block edges.now n }
 {
     let bit = n - 1;
     let last = bit / 8;
-    let found = block + sub_block + bits::tally_part(edges, t, last, bit % 8 + 1);
+    let found = block + sub_block + bits::tally_part(edges, last, bit % 8 + 1);
     if last < 8 {
-        return found + bits::tally_bytes(edges, t, 0, last);
+        return found + bits::tally_bytes(edges, 0, last);
     }
     let k = last % 8;
     let whole = last - k;
     let rest = bits::part_word(edges, whole, k);
     let mut sum = found + (u64::count_ones(rest) as usize);
-    let mut i = 0;
-    while i < whole {
-        sum += bits::word_ones(edges, i);
-        i += 8;
+    for i in 0..last / 8 {
+        sum += bits::word_ones(edges, 8 * i);
     }
     sum
 }
 
 // The set bits before an offset, by the index fields: the counting is lent the entries and the bytes of the sub-block of the last bit before it, up to that bit's byte.
-fn indexed_ones(l: &[u8], t: &[u8], e: Encoding, o: EdgeOffset) -> usize
-    requires { FieldsFit l.now e × BlockFits l.now e o.0 × Tallies t.now × (o.0 ≤ e.bits) }
+fn indexed_ones(l: &[u8], e: Encoding, o: EdgeOffset) -> usize
+    requires { FieldsFit l.now e × BlockFits l.now e o.0 × (o.0 ≤ e.bits) }
     ensures { result ≡ counted_to l.now e o.0 }
 {
     let n = o.0;
@@ -278,64 +238,50 @@ fn indexed_ones(l: &[u8], t: &[u8], e: Encoding, o: EdgeOffset) -> usize
     let last = n - 1;
     let j = last / Encoding::BLOCK_BITS;
     let sub = last / Encoding::SUB_BLOCK_BITS;
-    let block = bits::number8(l, e.blocks + Encoding::BLOCK_ENTRY * j);
-    let sub_block = bits::number2(l, e.sub_blocks + Encoding::SUB_BLOCK_ENTRY * sub);
+    let block = bits::number::<8>(l, e.blocks + Encoding::BLOCK_ENTRY * j);
+    let sub_block = bits::number::<2>(l, e.sub_blocks + Encoding::SUB_BLOCK_ENTRY * sub);
     let from = e.edges + Encoding::SUB_BLOCK_BYTES * sub;
     let upto = e.edges + last / 8 + 1;
     let counted = last % Encoding::SUB_BLOCK_BITS + 1;
-    count_sub_block(block, sub_block, &l[from..upto], t, counted)
+    count_sub_block(block, sub_block, &l[from..upto], counted)
 }
 
 // The set bits before an offset, if n are set before another that is near before it: the other's byte and those behind it are counted, less the bits before the other in its byte.
-fn ones_near(l: &[u8], t: &[u8], e: Encoding, from: EdgeOffset, n: usize, o: EdgeOffset) -> usize
-    requires { FieldsFit l.now e × Tallies t.now × (from.0 < o.0) × (o.0 ≤ from.0 + near) × (o.0 ≤ e.bits) × (n ≡ rank (edges_at l.now e) from.0) }
+fn ones_near(l: &[u8], e: Encoding, from: EdgeOffset, n: usize, o: EdgeOffset) -> usize
+    requires { FieldsFit l.now e × (from.0 < o.0) × (o.0 ≤ from.0 + near) × (o.0 ≤ e.bits) × (n ≡ rank (edges_at l.now e) from.0) }
     ensures { result ≡ rank (edges_at l.now e) o.0 }
 {
     let a = from.0;
     let last = o.0 - 1;
     let first = e.edges + a / 8;
     let at = e.edges + last / 8;
-    let before = bits::tally_part(l, t, first, a % 8);
-    let whole = bits::tally_bytes(l, t, first, at);
-    let part = bits::tally_part(l, t, at, last % 8 + 1);
+    let before = bits::tally_part(l, first, a % 8);
+    let whole = bits::tally_bytes(l, first, at);
+    let part = bits::tally_part(l, at, last % 8 + 1);
     n + whole + part - before
 }
 
 // The set bits before an offset, if n are set before another that is not behind it.
-fn ones_on(l: &[u8], t: &[u8], e: Encoding, from: EdgeOffset, n: usize, o: EdgeOffset) -> usize
-    requires { FieldsFit l.now e × Counted l.now e × Tallies t.now × (from.0 ≤ o.0) × (o.0 ≤ e.bits) × (n ≡ rank (edges_at l.now e) from.0) }
+fn ones_on(l: &[u8], e: Encoding, from: EdgeOffset, n: usize, o: EdgeOffset) -> usize
+    requires { FieldsFit l.now e × Counted l.now e × (from.0 ≤ o.0) × (o.0 ≤ e.bits) × (n ≡ rank (edges_at l.now e) from.0) }
     ensures { result ≡ rank (edges_at l.now e) o.0 }
 {
     let far = o.0 - from.0;
     if far > NEAR {
-        return indexed_ones(l, t, e, o);
+        return indexed_ones(l, e, o);
     }
     if far == 0 {
         return n;
     }
-    ones_near(l, t, e, from, n, o)
+    ones_near(l, e, from, n, o)
 }
 
 // ---- The check of 7
-// The set bits of edge bytes that are right so far.
-#[derive(Clone, Copy)]
-pub enum Tallied {
-    Wrong,
-    Ones(usize),
-}
-
-// The lesser of two numbers.
-fn lesser(x: usize, y: usize) -> usize
-    ensures { result ≡ min x y }
-{
-    if x < y { x } else { y }
-}
-
 // The records of level 0: one, or none in the empty set.
 pub fn roots_of(bits: usize) -> usize
     ensures { (result ≡ roots bits) × (result ≤ 1) }
 {
-    if 0 < bits { 1 } else { 0 }
+    (0 < bits) as usize
 }
 
 // The set bits before a sub-block's block: those before the sub-block if it is its first, else the same as before.
@@ -356,11 +302,11 @@ fn entries_agree(l: &[u8], e: Encoding, j: usize, base: usize, n: usize) -> bool
 {
     if j % Encoding::SUB_BLOCKS == 0 {
         let block = j / Encoding::SUB_BLOCKS;
-        if bits::number8(l, e.blocks + Encoding::BLOCK_ENTRY * block) != n {
+        if bits::number::<8>(l, e.blocks + Encoding::BLOCK_ENTRY * block) != n {
             return false;
         }
     }
-    bits::number2(l, e.sub_blocks + Encoding::SUB_BLOCK_ENTRY * j) == n - base
+    bits::number::<2>(l, e.sub_blocks + Encoding::SUB_BLOCK_ENTRY * j) == n - base
 }
 
 // The lower bit of each of a word's 32 records, and of a byte's four.
@@ -382,49 +328,46 @@ fn scan_words(l: &[u8], from: usize, words: usize) -> Scan
 {
     let mut full = RECORDS;
     let mut n: usize = 0;
-    let mut i = 0;
-    while i < words {
+    for i in 0..words {
         let x = bits::word(l, from + 8 * i);
         full = full & (x | (x >> 1));
         n += u64::count_ones(x) as usize;
-        i += 1;
     }
     Scan { full, ones: n }
 }
 
 // A whole sub-block: its eight words, by a loop of its own when compiled.
-fn scan_sub_block(l: &[u8], from: usize) -> Tallied
+fn scan_sub_block(l: &[u8], from: usize) -> Option<usize>
     requires { from + sub_block_size ≤ length l.now }
     ensures { BytesTallied (drop from l.now) sub_block_size result }
 {
     let p = scan_words(l, from, Encoding::SUB_BLOCK_BYTES / 8);
     if p.full != RECORDS {
-        return Tallied::Wrong;
+        return None;
     }
-    Tallied::Ones(p.ones)
+    Some(p.ones)
 }
 
 // Fewer bytes, from..upto: whole words, then the bytes behind them as one.
-fn part_ones(l: &[u8], from: usize, upto: usize) -> Tallied
+fn part_ones(l: &[u8], from: usize, upto: usize) -> Option<usize>
     requires { (8 ≤ from) × (from ≤ upto) × (upto ≤ length l.now) × (upto ≤ from + sub_block_size) }
     ensures { BytesTallied (drop from l.now) (upto - from) result }
 {
     let size = upto - from;
     let p = scan_words(l, from, size / 8);
     if p.full != RECORDS {
-        return Tallied::Wrong;
+        return None;
     }
     let k = size % 8;
     let x = bits::part_word(l, upto - k, k);
     if RECORDS & (x | (x >> 1)) != RECORDS % (1u64 << (8 * k)) {
-        return Tallied::Wrong;
+        return None;
     }
-    let n = p.ones + (u64::count_ones(x) as usize);
-    Tallied::Ones(n)
+    Some(p.ones + (u64::count_ones(x) as usize))
 }
 
 // One pass over the whole edge bytes, sub-block by sub-block: no record is empty, and both index fields are right.
-fn whole_ones(l: &[u8], e: Encoding) -> Tallied
+fn whole_ones(l: &[u8], e: Encoding) -> Option<usize>
     requires { FieldsFit l.now e }
     ensures { Whole l.now e result }
 {
@@ -432,32 +375,27 @@ fn whole_ones(l: &[u8], e: Encoding) -> Tallied
     let whole = e.bits / Encoding::SUB_BLOCK_BITS;
     let mut base = 0;
     let mut n = 0;
-    let mut j = 0;
-    while j < whole {
+    for j in 0..whole {
         base = block_base(j, base, n);
         if !entries_agree(l, e, j, base, n) {
-            return Tallied::Wrong;
+            return None;
         }
-        let Tallied::Ones(k) = scan_sub_block(l, edges + Encoding::SUB_BLOCK_BYTES * j) else {
-            return Tallied::Wrong;
-        };
-        n += k;
-        j += 1;
+        n += scan_sub_block(l, edges + Encoding::SUB_BLOCK_BYTES * j)?;
     }
     // The last, if it is not whole.
     if e.bits % Encoding::SUB_BLOCK_BITS == 0 {
-        return Tallied::Ones(n);
+        return Some(n);
     }
-    base = block_base(j, base, n);
-    if !entries_agree(l, e, j, base, n) {
-        return Tallied::Wrong;
+    base = block_base(whole, base, n);
+    if !entries_agree(l, e, whole, base, n) {
+        return None;
     }
-    let from = edges + Encoding::SUB_BLOCK_BYTES * j;
-    let Tallied::Ones(rest) = part_ones(l, from, edges + e.bits / 8) else {
-        return Tallied::Wrong;
-    };
-    let ones = n + rest;
-    Tallied::Ones(ones)
+    let rest = part_ones(
+        l,
+        edges + Encoding::SUB_BLOCK_BYTES * whole,
+        edges + e.bits / 8,
+    )?;
+    Some(n + rest)
 }
 
 // What the lowest of the used bits of a byte counts.
@@ -469,26 +407,25 @@ fn lowest(used: usize) -> usize
 }
 
 // The last byte, if it is not whole: its left-over bits are clear, and with them set no record is empty.
-fn last_ones(l: &[u8], e: Encoding) -> Tallied
+fn last_ones(l: &[u8], e: Encoding) -> Option<usize>
     requires { FieldsFit l.now e }
     ensures { Last l.now e result }
 {
     let used = e.bits % 8;
     if used == 0 {
-        return Tallied::Ones(0);
+        return Some(0);
     }
     let at = e.edges + e.bits / 8;
     let x = l[at] as usize;
     let unit = lowest(used);
     if x % unit != 0 {
-        return Tallied::Wrong;
+        return None;
     }
     let y = x + (unit - 1);
     if BYTE_RECORDS & (y | (y >> 1)) != BYTE_RECORDS {
-        return Tallied::Wrong;
+        return None;
     }
-    let n = usize::count_ones(x) as usize;
-    Tallied::Ones(n)
+    Some(usize::count_ones(x) as usize)
 }
 
 // Whether every level ends at 0, as in the empty set: a short loop, with nothing to count.
@@ -496,153 +433,81 @@ fn levels_empty(l: &[u8], width: usize) -> bool
     requires { (width ≤ max_width) × (body_at start3 + level_bytes width ≤ length l.now) }
     ensures { Decides result ((d : ℕ) → d < width → level_at l.now d ≡ 0) }
 {
-    let mut d = 0;
-    while d < width {
-        if bits::number4(l, Encoding::LEVELS_AT + Encoding::LEVEL_ENTRY * d) != 0 {
+    for d in 0..width {
+        if bits::number::<4>(l, Encoding::LEVELS_AT + Encoding::LEVEL_ENTRY * d) != 0 {
             return false;
         }
-        d += 1;
     }
     true
 }
 
 // Whether each level ends at twice the records so far: the roots, and one for each set bit before the level.
 // The next claim is read before the set bits to this one are counted, so that no read waits for a count.
-fn levels_counted(l: &[u8], t: &[u8], e: Encoding) -> bool
-    requires { FieldsFit l.now e × Counted l.now e × Tallies t.now }
+fn levels_counted(l: &[u8], e: Encoding) -> bool
+    requires { FieldsFit l.now e × Counted l.now e }
     ensures { Decides result (Levelled l.now e) }
 {
-    let width = e.width;
     let roots = roots_of(e.bits);
     let mut from = 0;
     let mut start = 0;
     let mut n = 0;
-    let mut d = 0;
-    while d < width {
-        let end = bits::number4(l, Encoding::LEVELS_AT + Encoding::LEVEL_ENTRY * d);
-        n = ones_on(l, t, e, EdgeOffset(from), n, EdgeOffset(start));
+    for d in 0..e.width {
+        let end = bits::number::<4>(l, Encoding::LEVELS_AT + Encoding::LEVEL_ENTRY * d);
+        n = ones_on(l, e, EdgeOffset(from), n, EdgeOffset(start));
         if end != 2 * (roots + n) {
             return false;
         }
         from = start;
-        start = lesser(end, e.bits);
-        d += 1;
+        start = end.min(e.bits);
     }
     true
 }
 
 // Whether field 3 has the ends of the levels.
-fn levels_agree(l: &[u8], t: &[u8], e: Encoding) -> bool
-    requires { FieldsFit l.now e × Counted l.now e × Tallies t.now }
+fn levels_agree(l: &[u8], e: Encoding) -> bool
+    requires { FieldsFit l.now e × Counted l.now e }
     ensures { Decides result (Levelled l.now e) }
 {
     if e.bits == 0 {
         return levels_empty(l, e.width);
     }
-    levels_counted(l, t, e)
+    levels_counted(l, e)
 }
 
 // Whether the bytes are the encoding of the set that following their edges gives.
-fn agrees(l: &[u8], t: &[u8], e: Encoding) -> bool
-    requires { Fields l.now e × Tallies t.now }
+fn agrees(l: &[u8], e: Encoding) -> bool
+    requires { Fields l.now e }
     ensures { result ≡ same_numbers l.now (encode (entry_in l.now)) }
 {
-    let Tallied::Ones(n) = whole_ones(l, e) else {
+    let Some(n) = whole_ones(l, e) else {
         return false;
     };
-    let Tallied::Ones(k) = last_ones(l, e) else {
+    let Some(k) = last_ones(l, e) else {
         return false;
     };
-    if !levels_agree(l, t, e) {
+    if !levels_agree(l, e) {
         return false;
     }
     // Each set bit above the last level makes a record, the others are the keys'.
     e.count + e.bits / 2 == roots_of(e.bits) + n + k
 }
 
-// The full check, behind every call that takes an encoding.
-pub fn check(l: &[u8], t: &[u8]) -> Checked
-    requires { Tallies t.now }
-    ensures { Checks l.now result }
+// ---- The calls
+// An encoding opened: the full check, behind every call that takes one.
+pub fn open(l: &[u8]) -> Result<Opened<'_>, Refusal>
+    ensures checked { Checks l.now result }
+    ensures told { told_outcome result ≡ open_call l.now }
 {
-    match parse(l) {
-        Checked::Refused(k) => Checked::Refused(k),
-        Checked::Opened(e) => {
-            if agrees(l, t, e) {
-                return Checked::Opened(e);
-            }
-            Checked::Refused(refusal::NOT_AN_ENCODING)
-        }
+    let e = parse(l)?;
+    if agrees(l, e) {
+        return Ok(Opened::of(l, e));
     }
+    Err(Refusal::NotAnEncoding)
 }
 
-// ---- Behind the check
-// The set bits before an offset, 0 to b.
-pub fn ones_before(l: &[u8], t: &[u8], e: Encoding, o: EdgeOffset) -> usize
-    requires { Opens l.now e × Tallies t.now × (o.0 ≤ e.bits) }
-    ensures { result ≡ rank (edges_of (entry_in l.now)) o.0 }
+// The rank of an offset: the set bits strictly before it.
+pub fn rank(l: &[u8], at: EdgeOffset) -> Result<usize, Refusal>
+    ensures { ranked_outcome result ≡ rank_call l.now at.0 }
 {
-    indexed_ones(l, t, e, o)
-}
-
-// Where level d ends.
-pub fn level_end(l: &[u8], e: Encoding, d: usize) -> EdgeOffset
-    requires { Opens l.now e × (d < e.width) }
-    ensures { result.0 ≡ level_end (entry_in l.now) d }
-{
-    EdgeOffset(bits::number4(l, Encoding::LEVELS_AT + Encoding::LEVEL_ENTRY * d))
-}
-
-// Whether the edge at an offset is set.
-pub fn edge_at(l: &[u8], e: Encoding, o: EdgeOffset) -> bool
-    requires { Opens l.now e × (o.0 < e.bits) }
-    ensures { result ≡ get_or (edges_of (entry_in l.now)) o.0 false }
-{
-    bits::bit_at(l, 8 * e.edges + o.0)
-}
-
-// ---- Calls
-// m, n and b, or the refusal.
-#[derive(Clone, Copy)]
-pub enum Told {
-    Refused(u8),
-    Numbers(usize, usize, usize),
-}
-
-pub fn open(l: &[u8]) -> Told
-    ensures { told_outcome result ≡ open_call l.now }
-{
-    let t = bits::tallies();
-    match check(l, &t) {
-        Checked::Refused(k) => Told::Refused(k),
-        Checked::Opened(e) => Told::Numbers(e.width, e.count, e.bits),
-    }
-}
-
-// The rank of an offset: the set bits strictly before it; or the refusal.
-#[derive(Clone, Copy)]
-pub enum Ranked {
-    Refused(u8),
-    Rank(usize),
-}
-
-// Behind the check.
-pub fn rank_in(l: &[u8], t: &[u8], e: Encoding, o: EdgeOffset) -> Ranked
-    requires { Opens l.now e × Tallies t.now }
-    ensures { ranked_outcome result ≡ rank_call l.now o.0 }
-{
-    if e.bits < o.0 {
-        return Ranked::Refused(refusal::OUT_OF_RANGE);
-    }
-    Ranked::Rank(ones_before(l, t, e, o))
-}
-
-pub fn rank(l: &[u8], o: EdgeOffset) -> Ranked
-    ensures { ranked_outcome result ≡ rank_call l.now o.0 }
-{
-    let t = bits::tallies();
-    match check(l, &t) {
-        Checked::Refused(k) => Ranked::Refused(k),
-        Checked::Opened(e) => rank_in(l, &t, e, o),
-    }
+    open(l)?.rank(at)
 }

@@ -6,6 +6,8 @@ pub mod Edges
 pub mod Entry
 pub mod Encode
 pub mod Refusals
+-- (the code's refusals by these numbers)
+pub mod Numbers
 pub mod Read
 -- (for the contracts of inner functions: edges in a buffer, and records counted)
 pub mod Held

@@ -1,34 +1,33 @@
-// The refusals' numbers, as specs/Refusals.antt names and explains them.
-pub const TRUNCATED: u8 = 1;
+// The refusals, as specs/Refusals.antt numbers and explains them.
+ghost use Rattle.std.specs.Prelude.{◌≡◌};
+ghost use Rattle.loes.specs.Numbers.{number_of};
 
-pub const WRONG_TAG: u8 = 2;
+#[derive(Clone, Copy, PartialEq, Eq)]
+pub enum Refusal {
+    Truncated = 1,
+    WrongTag = 2,
+    WrongLength = 3,
+    BadWidth = 4,
+    TooLarge = 5,
+    TrailingBytes = 6,
+    NotAnEncoding = 7,
+    BadKey = 8,
+    OutOfRange = 9,
+    RaggedBatch = 10,
+    UnusedBitSet = 11,
+    Descending = 12,
+    TwoWidths = 13,
+    ShortBuffer = 14,
+    BadCursor = 15,
+    WrongList = 16,
+    Overflow = 17,
+}
 
-pub const WRONG_LENGTH: u8 = 3;
-
-pub const BAD_WIDTH: u8 = 4;
-
-pub const TOO_LARGE: u8 = 5;
-
-pub const TRAILING_BYTES: u8 = 6;
-
-pub const NOT_AN_ENCODING: u8 = 7;
-
-pub const BAD_KEY: u8 = 8;
-
-pub const OUT_OF_RANGE: u8 = 9;
-
-pub const RAGGED_BATCH: u8 = 10;
-
-pub const UNUSED_BIT_SET: u8 = 11;
-
-pub const DESCENDING: u8 = 12;
-
-pub const TWO_WIDTHS: u8 = 13;
-
-pub const SHORT_BUFFER: u8 = 14;
-
-pub const BAD_CURSOR: u8 = 15;
-
-pub const WRONG_LIST: u8 = 16;
-
-pub const OVERFLOW: u8 = 17;
+impl Refusal {
+    // Its number, by which it is told.
+    pub fn number(self) -> u8
+        ensures { result ≡ number_of self }
+    {
+        self as u8
+    }
+}
