@@ -1,6 +1,6 @@
 -- A level merged: single records and blocks, one behind the other.
 use mathlib.Core.Path.{◌≡◌, refl, sym, ap, ap₂, ◌∙◌}
-use Prim.Native.Nat.{ℕ, suc, ◌+◌, ◌-◌, ◌*◌, ◌≤◌, ◌<◌}
+use Prim.Native.Nat.{ℕ, suc, ◌+◌, ◌-◌, ◌*◌, ◌/◌, ◌%◌, ◌≤◌, ◌<◌}
 use mathlib.Core.Bool.{Bool, true, false}
 use mathlib.Core.List.{List, [], ◌∷◌, ◌++◌, append-nil, append_assoc}
 use native.Mathlib.Omega.{arith}
@@ -219,3 +219,51 @@ module _ {a b q : Bytes} {from ka kb tail : ℕ} where
           last = rw z t.last;
           size = t.size ∙ v.size;
         }
+
+-- ---- The same at place i of the queue
+module _ {a b q : Bytes} {from ka kb tail i : ℕ} (room : LevelRoom a b q from ka kb tail (flags_from q from (tail - from))) (start : from ≤ i)
+    {p : Bytes} {la lb end : ℕ} (v : LevelMerged a b q from ka kb tail (i - from) p la lb end) where
+  here : from + (i - from) ≡ i
+  here = omega arith
+
+  -- what one record needs
+  pub record RecordRoom : Type 0 where
+    pub queue : (i < end) × (end + 2 ≤ 4 * length p) × (length p ≤ max_edges)
+    pub first : (flag_at p i).in_first ≡ true → la < 4 * length a
+    pub second : (flag_at p i).in_second ≡ true → lb < 4 * length b
+    pub limit : la + lb ≤ max_edges
+
+  pub record_room : i < tail → RecordRoom
+  record_room h =
+      let more : i - from < tail - from = omega arith in
+      record {
+        queue = (omega (arith, tail_le room (i - from) more v), omega (arith, v.size, (over room (i - from) more v).2), omega (arith, v.size, room.small));
+        first = rw here at (room_first room (i - from) more v);
+        second = rw here at (room_second room (i - from) more v);
+        limit = taken_le room (i - from) more v;
+      }
+
+  pub record_more : {p' : Bytes} {la' lb' end' : ℕ} → i < tail → RecordMerged a b p i la lb end p' la' lb' end' → LevelMerged a b q from ka kb tail (i + 1 - from) p' la' lb' end'
+  record_more h t =
+      let z : i + 1 - from ≡ (i - from) + 1 = omega arith in
+      rw z (level_more room (i - from) (omega arith) v (rw here t))
+
+  -- and what a block needs
+  pub record BlockRoom : Type 0 where
+    pub queue : (4 * (i / 4) + 8 ≤ end) × (end + overwrite ≤ 4 * length p) × (length p ≤ max_edges)
+    pub over : (la + overread ≤ 4 * length a) × (lb + overread ≤ 4 * length b) × (la + lb ≤ max_edges)
+
+  pub block_room : i % 4 ≡ 0 → i + 8 ≤ tail → BlockRoom
+  block_room h l =
+      let more : i - from < tail - from = omega arith in
+      let behind = over room (i - from) more v in
+      record {
+        queue = (omega (arith, tail_le room (i - from) more v), omega (arith, v.size, behind.2), omega (arith, v.size, room.small));
+        over = (behind.0, behind.1, taken_le room (i - from) more v);
+      }
+
+  pub block_more : {p' : Bytes} {la' lb' end' : ℕ} → i % 4 ≡ 0 → i + 8 ≤ tail → BlockMerged a b p (i / 4) la lb end p' la' lb' end'
+      → LevelMerged a b q from ka kb tail (i + 8 - from) p' la' lb' end'
+  block_more h l t =
+      let z : i + 8 - from ≡ (i - from) + 8 = omega arith in
+      rw z (level_block room (i - from) (omega arith) v (i / 4) (omega arith) (omega arith) t)

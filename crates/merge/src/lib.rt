@@ -4,14 +4,13 @@
 ghost use Rattle.std.specs.Prelude.{◌+◌, ◌-◌, ◌*◌, ◌/◌, ◌%◌, ◌<◌, ◌≤◌, ◌≡◌, true, map, length, ltb};
 ghost use Rattle.loes.specs.Limits.{max_edges};
 ghost use Rattle.loes.specs.Bytes.{odd, bit};
-ghost use Rattle.loes.specs.Held.{entry_held, Holds};
+ghost use Rattle.loes.specs.Held.{entry_held};
 ghost use Rattle.records.specs.Records.{record_of_code, flag_at, flags_from, record_of_flag};
 ghost use Rattle.records.specs.Numbers.{records_of, eight_of, Short, overread, overwrite};
-ghost use Rattle.records.specs.Tables.{Spreads, Parted, Runs, TablesLent};
 ghost use Rattle.merge.specs.Union.{Merged, QueueRoom, either_record, child_flags, children_of, flags_in, EightMerged, taken_record, Queued, RecordMerged, BlockMerged, LevelMerged, LevelRoom};
 
 use bits::RecordIndex;
-use records::Run;
+use records::{EdgeBytes, Run, Tables};
 
 // ---- One record
 
@@ -79,12 +78,12 @@ fn merge_record(a: &[u8], b: &[u8], q: &mut [u8], i: RecordIndex, at: Positions)
 }
 
 // The flags that four records of each push.
-fn push_four(t: &[u16], x: usize, y: usize) -> Run
-    requires { Runs t.now × (x < 256) × (y < 256) }
+fn push_four(tables: Tables<'_>, x: usize, y: usize) -> Run
+    requires { (x < 256) × (y < 256) }
     ensures { (records_of (result.bits / 2) result.records ≡ map record_of_flag (children_of (records_of 4 x) (records_of 4 y))) × Short 8 result.records result.bits }
 {
-    let h = records::run_at(t, x / 16, y / 16);
-    let g = records::run_at(t, x % 16, y % 16);
+    let h = tables.run_at(x / 16, y / 16);
+    let g = tables.run_at(x % 16, y % 16);
     records::run_and(h, g)
 }
 
@@ -99,26 +98,17 @@ pub struct Eight {
 }
 
 // The eight flags of bytes c and d merged: x and y are the next eight records of each.
-fn merge_eight(
-    spreads: &[u8],
-    parts: &[u32],
-    runs: &[u16],
-    c: u8,
-    d: u8,
-    x: usize,
-    y: usize,
-) -> Eight
-    requires { Spreads spreads.now × Parted parts.now × Runs runs.now }
+fn merge_eight(tables: Tables<'_>, c: u8, d: u8, x: usize, y: usize) -> Eight
     ensures { EightMerged (flags_in c d) (eight_of x) (eight_of y) result.high result.low result.flags.records result.flags.bits result.first result.second }
 {
-    let f = records::parts_at(parts, c);
-    let g = records::parts_at(parts, d);
-    let x1 = records::spread_at(spreads, f.firsts, records::four_in(x, 0));
-    let y1 = records::spread_at(spreads, f.seconds, records::four_in(y, 0));
-    let x2 = records::spread_at(spreads, g.firsts, records::four_in(x, f.first));
-    let y2 = records::spread_at(spreads, g.seconds, records::four_in(y, f.second));
-    let h = push_four(runs, x1, y1);
-    let k = push_four(runs, x2, y2);
+    let f = tables.parts_at(c);
+    let g = tables.parts_at(d);
+    let x1 = tables.spread_at(f.firsts, records::four_in(x, 0));
+    let y1 = tables.spread_at(f.seconds, records::four_in(y, 0));
+    let x2 = tables.spread_at(g.firsts, records::four_in(x, f.first));
+    let y2 = tables.spread_at(g.seconds, records::four_in(y, f.second));
+    let h = push_four(tables, x1, y1);
+    let k = push_four(tables, x2, y2);
     Eight {
         high: x1 | y1,
         low: x2 | y2,
@@ -132,16 +122,13 @@ fn merge_eight(
 fn merge_block(
     a: &[u8],
     b: &[u8],
-    spreads: &[u8],
-    parts: &[u32],
-    runs: &[u16],
+    tables: Tables<'_>,
     q: &mut [u8],
     j: usize,
     at: Positions,
 ) -> Positions
     requires j_bound { (4 * j + 8 ≤ at.tail.0) × (at.tail.0 + overwrite ≤ 4 * length q.old) × (length q.old ≤ max_edges) }
     requires overread_bound { (at.a.0 + overread ≤ 4 * length a.now) × (at.b.0 + overread ≤ 4 * length b.now) × (at.a.0 + at.b.0 ≤ max_edges) }
-    requires spreads { Spreads spreads.now × Parted parts.now × Runs runs.now }
     ensures { BlockMerged a.now b.now q.old j at.a.0 at.b.0 at.tail.0 q.new result.a.0 result.b.0 result.tail.0 }
 {
     let ia = at.a;
@@ -149,7 +136,7 @@ fn merge_block(
     let tail = at.tail;
     let x = records::window(a, ia);
     let y = records::window(b, ib);
-    let e = merge_eight(spreads, parts, runs, q[j], q[j + 1], x, y);
+    let e = merge_eight(tables, q[j], q[j + 1], x, y);
     q[j] = e.high as u8;
     q[j + 1] = e.low as u8;
     records::append(q, tail, e.flags);
@@ -163,13 +150,6 @@ fn merge_block(
 // The records of a block.
 const BLOCK: usize = 8;
 
-// How far blocks may go: to the end if tables are lent.
-fn blocks_end(tables: usize, end: RecordIndex) -> RecordIndex
-    ensures { (result.0 ≤ end.0) × (0 < result.0 → 0 < tables) }
-{
-    if tables > 0 { end } else { RecordIndex(0) }
-}
-
 // Whether a block can be merged: the records from i up to `to` begin with those of two bytes.
 fn has_block(i: RecordIndex, to: RecordIndex) -> bool
     requires { i.0 ≤ 4 * max_edges }
@@ -181,28 +161,36 @@ fn has_block(i: RecordIndex, to: RecordIndex) -> bool
     i.0 % 4 == 0
 }
 
-// A level of the union: its flags are in the queue from `from` on to the end.
-fn merge_level(
+// A level of the union, record by record: its flags are in the queue from `from` on to the end.
+fn merge_records(a: &[u8], b: &[u8], q: &mut [u8], from: RecordIndex, start: Positions) -> Positions
+    requires { LevelRoom a.now b.now q.old from.0 start.a.0 start.b.0 start.tail.0 (flags_from q.old from.0 (start.tail.0 - from.0)) }
+    ensures { LevelMerged a.now b.now q.old from.0 start.a.0 start.b.0 start.tail.0 (start.tail.0 - from.0) q.new result.a.0 result.b.0 result.tail.0 }
+{
+    let mut at = start;
+    for i in from.0..start.tail.0 {
+        at = merge_record(a, b, q, RecordIndex(i), at);
+    }
+    at
+}
+
+// The same, by blocks where it can be.
+fn merge_blocks(
     a: &[u8],
     b: &[u8],
-    spreads: &[u8],
-    parts: &[u32],
-    runs: &[u16],
+    tables: Tables<'_>,
     q: &mut [u8],
     from: RecordIndex,
     start: Positions,
 ) -> Positions
-    requires level_room { LevelRoom a.now b.now q.old from.0 start.a.0 start.b.0 start.tail.0 (flags_from q.old from.0 (start.tail.0 - from.0)) }
-    requires tables_lent { TablesLent spreads.now parts.now runs.now }
+    requires { LevelRoom a.now b.now q.old from.0 start.a.0 start.b.0 start.tail.0 (flags_from q.old from.0 (start.tail.0 - from.0)) }
     ensures { LevelMerged a.now b.now q.old from.0 start.a.0 start.b.0 start.tail.0 (start.tail.0 - from.0) q.new result.a.0 result.b.0 result.tail.0 }
 {
-    let end = start.tail.0;
-    let to = blocks_end(spreads.len(), start.tail);
+    let end = start.tail;
     let mut at = start;
     let mut i = from.0;
-    while i < end {
-        if has_block(RecordIndex(i), to) {
-            at = merge_block(a, b, spreads, parts, runs, q, i / 4, at);
+    while i < end.0 {
+        if has_block(RecordIndex(i), end) {
+            at = merge_block(a, b, tables, q, i / 4, at);
             i += BLOCK;
         } else {
             at = merge_record(a, b, q, RecordIndex(i), at);
@@ -210,6 +198,24 @@ fn merge_level(
         }
     }
     at
+}
+
+// The same, by blocks if tables are lent.
+fn merge_level(
+    a: &[u8],
+    b: &[u8],
+    tables: Option<Tables<'_>>,
+    q: &mut [u8],
+    from: RecordIndex,
+    start: Positions,
+) -> Positions
+    requires { LevelRoom a.now b.now q.old from.0 start.a.0 start.b.0 start.tail.0 (flags_from q.old from.0 (start.tail.0 - from.0)) }
+    ensures { LevelMerged a.now b.now q.old from.0 start.a.0 start.b.0 start.tail.0 (start.tail.0 - from.0) q.new result.a.0 result.b.0 result.tail.0 }
+{
+    match tables {
+        Some(t) => merge_blocks(a, b, t, q, from, start),
+        None => merge_records(a, b, q, from, start),
+    }
 }
 
 // 1 if a set of so many edges has a root, else 0.
@@ -226,25 +232,13 @@ pub struct Sizes {
     pub members: usize,
 }
 
-// The edges of the union of two sets of m bits, and which of the two has each member, in the queue.
-pub fn merge(
-    m: usize,
-    a: &[u8],
-    ba: usize,
-    b: &[u8],
-    bb: usize,
-    spreads: &[u8],
-    parts: &[u32],
-    runs: &[u16],
-    q: &mut [u8],
-) -> Sizes
-    requires holds { Holds m ba a.now × (ba / 2 + overread ≤ 4 * length a.now) }
-    requires holds_2 { Holds m bb b.now × (bb / 2 + overread ≤ 4 * length b.now) }
-    requires tables_lent { TablesLent spreads.now parts.now runs.now }
-    requires queue_room { QueueRoom ba bb q.old }
-    ensures { Merged (entry_held m ba a.now) (entry_held m bb b.now) q.old q.new result.edges result.members }
+// The edges of the union of two sets of one width, and which of the two has each member, in the queue.
+pub fn merge(a: EdgeBytes<'_>, b: EdgeBytes<'_>, tables: Option<Tables<'_>>, q: &mut [u8]) -> Sizes
+    requires one_width { a.width ≡ b.width }
+    requires queue_room { QueueRoom a.bits b.bits q.old }
+    ensures { Merged (entry_held a.entry.width a.entry.bits a.entry.bytes.now) (entry_held b.entry.width b.entry.bits b.entry.bytes.now) q.old q.new result.edges result.members }
 {
-    let c = root_flag(ba) + root_flag(bb) * 2;
+    let c = root_flag(a.bits) + root_flag(b.bits) * 2;
     let t = records::push(q, RecordIndex(0), c);
     let mut at = Positions {
         a: RecordIndex(0),
@@ -252,14 +246,13 @@ pub fn merge(
         tail: t,
     };
     let mut from = RecordIndex(0);
-    let mut d = 0;
-    while d < m {
+    for d in 0..a.width {
         let end = at.tail;
-        at = merge_level(a, b, spreads, parts, runs, q, from, at);
+        at = merge_level(a.bytes, b.bytes, tables, q, from, at);
         from = end;
-        d += 1;
     }
-    let n = at.tail.0 - from.0;
-    let edges = 2 * from.0;
-    Sizes { edges, members: n }
+    Sizes {
+        edges: 2 * from.0,
+        members: at.tail.0 - from.0,
+    }
 }

@@ -1,11 +1,15 @@
 -- Records in numbers: runs one behind the other, windows, and runs put into bytes.
 use mathlib.Core.Path.{◌≡◌, refl, sym, ap, ap₂, ◌∙◌}
 use Prim.Native.Nat.{ℕ, zero, suc, ◌+◌, ◌-◌, ◌*◌, ◌/◌, ◌%◌, ◌^◌, ◌≤◌, ◌<◌}
-use mathlib.Core.List.{List, ◌++◌, append-nil, append_assoc}
+use mathlib.Core.List.{List, [], ◌∷◌, ◌++◌, append-nil, append_assoc}
 use native.Mathlib.Omega.{arith}
+use Rattle.std.specs.Int.{byte_at, bytes_high_first}
+use Rattle.std.proofs.lemmas.List.{get_or-append-add, get_or-take, length-take-le}
 use native.Mathlib.Decide.{ℕ_discrete}
 use native.Mathlib.Nat.{pow-suc, suc-mul, mul-le-mul_right, mod-lt}
-use lib.ListN.{length, get_or, set, take, drop, length-set, length-append}
+use lib.ListN.{length, get_or, set, take, drop, length-append, length-drop, get_or-append}
+use borrow.Rule.Slice.PartMut.{put_mid}
+use Rattle.std.proofs.lemmas.Slice.{take-put_mid}
 use lib.Seq.{get_or-set_same, get_or-set_other, take_at, drop_at}
 use lib.Pow.{pow_pos, pow_mono, pow-add, shr_lt, shl_exact, split}
 use Rattle.loes.specs.Bytes.{Bytes, tabulate}
@@ -249,75 +253,87 @@ byte_set q i x h =
     code_at (set q i x) j ∙ rw e (sym (code_at q j))))
     (get_or-set_same q i x 0 h)
 
-abbrev eight_set : Bytes → ℕ → ℕ → Bytes
-eight_set q i v = set (set (set (set (set (set (set (set q i (v / 72057594037927936)) (i + 1) (v / 281474976710656 % 256)) (i + 2) (v / 1099511627776 % 256)) (i + 3) (v / 4294967296 % 256)) (i + 4) (v / 16777216 % 256)) (i + 5) (v / 65536 % 256)) (i + 6) (v / 256 % 256)) (i + 7) (v % 256)
+-- ---- Bytes put behind others: the records in front of them stay, and theirs are behind
+in_front : (xs ys : Bytes) (n : ℕ) → n ≤ 4 * length xs → records_to (xs ++ ys) n ≡ records_to xs n
+in_front xs ys n h =
+    records_same (xs ++ ys) xs n (λ j l.
+    let e : get_or (xs ++ ys) (j / 4) 0 ≡ get_or xs (j / 4) 0 = get_or-append xs ys 0 (j / 4) (omega arith) in
+    code_at (xs ++ ys) j ∙ rw e (sym (code_at xs j)))
 
--- the next byte set, behind n records of a number
-next_set : (q p : Bytes) (i j n v u : ℕ) → u ≡ v / 256 → records_to p (4 * j) ≡ records_to q (4 * i) ++ records_of n u → j < length p
-    → records_to (set p j (v % 256)) (4 * j + 4) ≡ records_to q (4 * i) ++ records_of (n + 4) v
-next_set q p i j n v u d e h =
-    byte_set p j (v % 256) h ∙ ap (λ t. t ++ records_of 4 (v % 256)) (e ∙ ap (λ t. records_to q (4 * i) ++ records_of n t) d) ∙ append_assoc (records_to q (4 * i)) (records_of n (v / 256)) (records_of 4 (v % 256))
-    ∙ ap (λ t. records_to q (4 * i) ++ t) (sym (cut n 4 v))
+behind : (xs ys : Bytes) (n : ℕ) → records_at (xs ++ ys) (4 * length xs) n ≡ records_to ys n
+unfolding records_at records_to
+behind xs ys n =
+    tabulate_ext (λ k. record_at (xs ++ ys) (4 * length xs + k)) (record_at ys) n (λ k l.
+    let a : (4 * length xs + k) / 4 ≡ length xs + k / 4 = omega arith in
+    let b : (4 * length xs + k) % 4 ≡ k % 4 = omega arith in
+    code_at (xs ++ ys) (4 * length xs + k) ∙ rw (a, b, get_or-append-add xs ys (k / 4) 0) (sym (code_at ys k)))
 
-eight_set_lem : (q : Bytes) (i v : ℕ) → i + 7 < length q → records_to (eight_set q i v) (4 * i + 32) ≡ records_to q (4 * i) ++ records_of 32 v
-eight_set_lem q i v h =
-    let q1 : Bytes = set q i (v / 72057594037927936) in
-    let q2 : Bytes = set q1 (i + 1) (v / 281474976710656 % 256) in
-    let q3 : Bytes = set q2 (i + 2) (v / 1099511627776 % 256) in
-    let q4 : Bytes = set q3 (i + 3) (v / 4294967296 % 256) in
-    let q5 : Bytes = set q4 (i + 4) (v / 16777216 % 256) in
-    let q6 : Bytes = set q5 (i + 5) (v / 65536 % 256) in
-    let q7 : Bytes = set q6 (i + 6) (v / 256 % 256) in
-    let n1 : length q1 ≡ length q = length-set q i (v / 72057594037927936) in
-    let n2 : length q2 ≡ length q1 = length-set q1 (i + 1) (v / 281474976710656 % 256) in
-    let n3 : length q3 ≡ length q2 = length-set q2 (i + 2) (v / 1099511627776 % 256) in
-    let n4 : length q4 ≡ length q3 = length-set q3 (i + 3) (v / 4294967296 % 256) in
-    let n5 : length q5 ≡ length q4 = length-set q4 (i + 4) (v / 16777216 % 256) in
-    let n6 : length q6 ≡ length q5 = length-set q5 (i + 5) (v / 65536 % 256) in
-    let n7 : length q7 ≡ length q6 = length-set q6 (i + 6) (v / 256 % 256) in
-    let a1 : v / 281474976710656 / 256 ≡ v / 72057594037927936 = omega arith in
-    let a2 : v / 1099511627776 / 256 ≡ v / 281474976710656 = omega arith in
-    let a3 : v / 4294967296 / 256 ≡ v / 1099511627776 = omega arith in
-    let a4 : v / 16777216 / 256 ≡ v / 4294967296 = omega arith in
-    let a5 : v / 65536 / 256 ≡ v / 16777216 = omega arith in
-    let a6 : v / 256 / 256 ≡ v / 65536 = omega arith in
-    let z1 : 4 * i + 4 ≡ 4 * (i + 1) = omega arith in
-    let z2 : 4 * (i + 1) + 4 ≡ 4 * (i + 2) = omega arith in
-    let z3 : 4 * (i + 2) + 4 ≡ 4 * (i + 3) = omega arith in
-    let z4 : 4 * (i + 3) + 4 ≡ 4 * (i + 4) = omega arith in
-    let z5 : 4 * (i + 4) + 4 ≡ 4 * (i + 5) = omega arith in
-    let z6 : 4 * (i + 5) + 4 ≡ 4 * (i + 6) = omega arith in
-    let z7 : 4 * (i + 6) + 4 ≡ 4 * (i + 7) = omega arith in
-    let z8 : 4 * (i + 7) + 4 ≡ 4 * i + 32 = omega arith in
-    let e1 : records_to q1 (4 * (i + 1)) ≡ records_to q (4 * i) ++ records_of 4 (v / 72057594037927936) = rw z1 at (byte_set q i (v / 72057594037927936) (omega arith)) in
-    let e2 : records_to q2 (4 * (i + 2)) ≡ records_to q (4 * i) ++ records_of 8 (v / 281474976710656) = rw z2 at (next_set q q1 i (i + 1) 4 (v / 281474976710656) (v / 72057594037927936) (sym a1) e1 (omega arith)) in
-    let e3 : records_to q3 (4 * (i + 3)) ≡ records_to q (4 * i) ++ records_of 12 (v / 1099511627776) = rw z3 at (next_set q q2 i (i + 2) 8 (v / 1099511627776) (v / 281474976710656) (sym a2) e2 (omega arith)) in
-    let e4 : records_to q4 (4 * (i + 4)) ≡ records_to q (4 * i) ++ records_of 16 (v / 4294967296) = rw z4 at (next_set q q3 i (i + 3) 12 (v / 4294967296) (v / 1099511627776) (sym a3) e3 (omega arith)) in
-    let e5 : records_to q5 (4 * (i + 5)) ≡ records_to q (4 * i) ++ records_of 20 (v / 16777216) = rw z5 at (next_set q q4 i (i + 4) 16 (v / 16777216) (v / 4294967296) (sym a4) e4 (omega arith)) in
-    let e6 : records_to q6 (4 * (i + 6)) ≡ records_to q (4 * i) ++ records_of 24 (v / 65536) = rw z6 at (next_set q q5 i (i + 5) 20 (v / 65536) (v / 16777216) (sym a5) e5 (omega arith)) in
-    let e7 : records_to q7 (4 * (i + 7)) ≡ records_to q (4 * i) ++ records_of 28 (v / 256) = rw z7 at (next_set q q6 i (i + 6) 24 (v / 256) (v / 65536) (sym a6) e6 (omega arith)) in
-    rw z8 at (next_set q q7 i (i + 7) 28 v (v / 256) refl e7 (omega arith))
+joined : (xs ys : Bytes) (n : ℕ) → records_to (xs ++ ys) (4 * length xs + n) ≡ records_to xs (4 * length xs) ++ records_to ys n
+joined xs ys n =
+    records_add (xs ++ ys) (4 * length xs) n ∙ ap₂ (λ s t. s ++ t) (in_front xs ys (4 * length xs) (omega arith)) (behind xs ys n)
 
-pub put_run : (q : Bytes) (k n w v : ℕ) → k / 4 + 7 < length q → n ≤ 16 → w < 2 ^ (2 * n)
+taken : (p : Bytes) (n : ℕ) → records_to p (4 * n) ≡ records_to (take n p) (4 * n)
+taken p n =
+    records_same p (take n p) (4 * n) (λ j l.
+    let e : get_or (take n p) (j / 4) 0 ≡ get_or p (j / 4) 0 = get_or-take n p (j / 4) 0 (omega arith) in
+    code_at p j ∙ rw (sym e) (sym (code_at (take n p) j)))
+
+pub pasted : (q p bs : Bytes) (i : ℕ) → i ≤ length q → take (i + length bs) p ≡ take i q ++ bs → records_to p (4 * i + 4 * length bs) ≡ records_to q (4 * i) ++ records_to bs (4 * length bs)
+pasted q p bs i h e =
+    let n : length (take i q) ≡ i = length-take-le i q h in
+    let z : 4 * (i + length bs) ≡ 4 * i + 4 * length bs = omega arith in
+    let f : records_to p (4 * i + 4 * length bs) ≡ records_to (take i q ++ bs) (4 * i + 4 * length bs) = rw (z, e) at (taken p (i + length bs)) in
+    f ∙ rw n at (joined (take i q) bs (4 * length bs)) ∙ ap (λ t. t ++ records_to bs (4 * length bs)) (sym (taken q i))
+
+-- the last n records of a number are those of what is left of it
+low : (n x : ℕ) → records_of n x ≡ records_of n (x % 2 ^ (2 * n))
+unfolding records_of
+low n x =
+    let z : 0 + n ≡ n = omega arith in
+    rw z at (cut 0 n x)
+
+pow_byte : (k : ℕ) → 256 ^ k ≡ 2 ^ (2 * (4 * k))
+pow_byte zero = omega arith
+pow_byte (suc k) =
+    let z : 2 * (4 * suc k) ≡ 2 * (4 * k) + 8 = omega arith in
+    rw (z, pow-add 2 (2 * (4 * k)) 8, pow-suc 256 k, pow_byte k)
+
+byte_is : (k v : ℕ) → byte_at k v ≡ v / 2 ^ (2 * (4 * k)) % 256
+byte_is zero v = omega arith
+byte_is (suc k) v = ap (λ p. v / p % 256) (pow_byte (suc k))
+
+byte_alone : (b : ℕ) → records_to (b ∷ []) 4 ≡ records_of 4 b
+byte_alone b = byte_more (b ∷ []) 0 ∙ unfold records_to tabulate in refl
+
+-- the low bytes of a number, the highest first: their records are its own
+pub high_first : (k v : ℕ) → records_to (bytes_high_first k v) (4 * k) ≡ records_of (4 * k) v
+high_first zero v = unfold records_to tabulate records_of in refl
+high_first (suc k) v =
+    let b : ℕ = byte_at k v in
+    let n : 4 * suc k ≡ 4 + 4 * k = omega arith in
+    rw n (joined (b ∷ []) (bytes_high_first k v) (4 * k) ∙ ap₂ (λ s t. s ++ t) (byte_alone b ∙ ap (records_of 4) (byte_is k v) ∙ sym (low 4 (v / 2 ^ (2 * (4 * k))))) (high_first k v ∙ low (4 * k) v) ∙ sym (cut 4 (4 * k) v))
+
+pub put_run : (q bs : Bytes) (k m n w v : ℕ) → k / 4 + 7 < length q → n ≤ 16 → w < 2 ^ (2 * n)
     → v ≡ (get_or q (k / 4) 0 / 2 ^ (2 * (4 - k % 4)) * 2 ^ (2 * n) + w) * 2 ^ (2 * (32 - k % 4 - n))
-    → Appended k n w q (eight_set q (k / 4) v)
-put_run q k n w v h l s e =
+    → m ≡ 8 → bs ≡ bytes_high_first 8 v → Appended k n w q (put_mid (k / 4) m q bs)
+put_run q bs k m n w v h l s e whole eb =
     let i : ℕ = k / 4 in
     let r : ℕ = k % 4 in
     let t : ℕ = 32 - r - n in
     let x : ℕ = get_or q i 0 / 2 ^ (2 * (4 - r)) in
     let N : ℕ = x * 2 ^ (2 * n) + w in
-    let p : Bytes = eight_set q i v in
+    let p : Bytes = put_mid i m q bs in
+    let eight : length bs ≡ 8 = ap length eb in
     let z : r + n + t ≡ 32 = omega arith in
     let y : N * 2 ^ (2 * t) + 0 ≡ v = e2 N (2 ^ (2 * t)) v (sym e) in
     let c : records_of 32 v ≡ records_of (r + n) N ++ records_of t 0 = rw (z, y) at (cat (r + n) t N 0 (pow_pos (2 * t))) in
     let d : records_of (r + n) N ≡ records_of r x ++ records_of n w = cat r n x w s in
     let f : records_to p (4 * i + 32) ≡ (records_to q k ++ records_of n w) ++ records_of t 0 =
-    eight_set_lem q i v h ∙ rw (c, d, front q k) (assoc (records_to q (4 * i)) (records_of r x) (records_of n w) (records_of t 0)) in
-    let m : length (records_to q k ++ records_of n w) ≡ k + n = omega (arith, length-append (records_to q k) (records_of n w), length_records q k, length_run n w) in
+    rw eight at (pasted q p bs i (omega arith) (take-put_mid i m q bs (i + length bs) refl (omega arith))) ∙ rw (eb, high_first 8 v, c, d, front q k) (assoc (records_to q (4 * i)) (records_of r x) (records_of n w) (records_of t 0)) in
+    let front_end : length (records_to q k ++ records_of n w) ≡ k + n = omega (arith, length-append (records_to q k) (records_of n w), length_records q k, length_run n w) in
     record {
-      records = sym (records_take p (k + n) (4 * i + 32) (omega arith)) ∙ ap (take (k + n)) f ∙ take_at (records_to q k ++ records_of n w) (records_of t 0) (k + n) m;
-      size = simp length-set;
+      records = sym (records_take p (k + n) (4 * i + 32) (omega arith)) ∙ ap (take (k + n)) f ∙ take_at (records_to q k ++ records_of n w) (records_of t 0) (k + n) front_end;
+      size = omega (arith, length-append (take i q) (bs ++ drop m (drop i q)), length-append bs (drop m (drop i q)), length-take-le i q (omega arith), length-drop m (drop i q), length-drop i q);
     }
   where
     e2 : (a b c : ℕ) → a * b ≡ c → a * b + 0 ≡ c

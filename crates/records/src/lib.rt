@@ -1,15 +1,21 @@
 // Records in bytes: one at a time, in windows and runs of several, and looked up in tables.
 #![tactic(auto)]
 
-ghost use Rattle.std.specs.Prelude.{◌+◌, ◌*◌, ◌/◌, ◌%◌, ◌^◌, ◌<◌, ◌≤◌, ◌≡◌, ◌++◌, map, length, take, drop};
+ghost use Rattle.std.specs.Prelude.{◌+◌, ◌*◌, ◌/◌, ◌%◌, ◌^◌, ◌<◌, ◌≤◌, ◌≡◌, ◌++◌, length, take, drop};
 ghost use Rattle.loes.specs.Limits.{max_edges};
-ghost use Rattle.loes.specs.Keys.{those};
-ghost use Rattle.loes.specs.Edges.{Record};
-ghost use Rattle.records.specs.Records.{has_edge, record_of_code, code_in, record_at, records_at, flag_of_record, record_of_flag, first_count, second_count, with_record, Put, Pushed, Sealed};
-ghost use Rattle.records.specs.Numbers.{records_of, bits_of, eight_of, Short, Appended};
-ghost use Rattle.records.specs.Tables.{spread, kept_by, either_flags, Spreads, Parted, Runs, Edged};
+ghost use Rattle.records.specs.Records.{has_edge, record_of_code, code_in, record_at, records_at, with_record, Put, Pushed, Sealed};
+ghost use Rattle.records.specs.Numbers.{records_of, eight_of, Short, Appended};
+
+mod edge_bytes;
+mod edged;
+mod kinds;
+mod lent;
 
 use bits::RecordIndex;
+pub use edge_bytes::EdgeBytes;
+pub use edged::EdgedTable;
+pub use kinds::Kept;
+pub use lent::{Parts, Tables};
 
 // ---- Records in bytes, as numbers 2·on_zero + on_one
 
@@ -78,18 +84,12 @@ pub fn wide(x: u8) -> usize
     x as usize
 }
 
-// What a byte weighs that has three behind it.
-const THREE_BYTES: usize = bits::TWO_BYTES * bits::BYTE;
-
 // The sixteen records of the four bytes from byte j on. Just these are read: a wider load would wait for bytes that were written a moment ago.
 pub fn block(l: &[u8], j: usize) -> usize
     requires { j + 3 < length l.now }
     ensures { (records_of 16 result ≡ records_at l.now (4 * j) 16) × (result < 2 ^ 32) }
 {
-    wide(l[j]) * THREE_BYTES
-        + wide(l[j + 1]) * bits::TWO_BYTES
-        + wide(l[j + 2]) * bits::BYTE
-        + wide(l[j + 3])
+    u32::from_be_bytes([l[j], l[j + 1], l[j + 2], l[j + 3]]) as usize
 }
 
 // Eight records from record i on, in the upper bits of a word.
@@ -115,6 +115,16 @@ pub struct Run {
     pub bits: usize,
 }
 
+// The run in an entry of a table: 256 times its bits, and their number.
+fn run_of(h: usize) -> Run
+    ensures { (result.records ≡ h % 256) × (result.bits ≡ h / 256) }
+{
+    Run {
+        records: h % 256,
+        bits: h / 256,
+    }
+}
+
 // A run, and one behind it.
 pub fn run_and(h: Run, g: Run) -> Run
     requires { Short 8 h.records h.bits × Short 8 g.records g.bits }
@@ -136,86 +146,8 @@ pub fn append(out: &mut [u8], k: RecordIndex, r: Run)
     let at = k.0 / 4;
     let n = r.bits;
     let p = 2 * (k.0 % 4);
-    let old = wide(out[at]);
+    let old = out[at] as usize;
     let w = ((old >> (8 - p)) << n) + r.records;
     let v = (w * 2) << (63 - p - n);
-    out[at] = (v >> 56) as u8;
-    out[at + 1] = ((v >> 48) % 256) as u8;
-    out[at + 2] = ((v >> 40) % 256) as u8;
-    out[at + 3] = ((v >> 32) % 256) as u8;
-    out[at + 4] = ((v >> 24) % 256) as u8;
-    out[at + 5] = ((v >> 16) % 256) as u8;
-    out[at + 6] = ((v >> 8) % 256) as u8;
-    out[at + 7] = (v % 256) as u8;
-}
-
-// ---- Tables, filled once and lent
-
-// The records of x put where the bits of f are set.
-pub fn spread_at(t: &[u8], f: usize, x: usize) -> usize
-    requires { Spreads t.now × (f < 16) × (x < 256) }
-    ensures { (records_of 4 result ≡ spread (bits_of 4 f) (records_of 4 x)) × (result < 256) }
-{
-    wide(t[256 * f + x])
-}
-
-// Of four flags: which say that the first, the second has it, and how many.
-#[derive(Clone, Copy)]
-pub struct Parts {
-    pub firsts: usize,
-    pub seconds: usize,
-    pub first: usize,
-    pub second: usize,
-}
-
-// The same of the flags in a byte.
-pub fn parts_at(t: &[u32], x: u8) -> Parts
-    requires { Parted t.now }
-    ensures firsts_value { (bits_of 4 result.firsts ≡ map (λ (z : Record). z.on_one) (records_of 4 x)) × (result.firsts < 16) }
-    ensures seconds_value { (bits_of 4 result.seconds ≡ map (λ (z : Record). z.on_zero) (records_of 4 x)) × (result.seconds < 16) }
-    ensures first_value { (result.first ≡ first_count (map flag_of_record (records_of 4 x))) × (result.first ≤ 4) }
-    ensures second_value { (result.second ≡ second_count (map flag_of_record (records_of 4 x))) × (result.second ≤ 4) }
-{
-    let h = t[wide(x)] as usize;
-    Parts {
-        firsts: h / 256 % 16,
-        seconds: h / 16 % 16,
-        first: h % 16,
-        second: h / 4096 % 16,
-    }
-}
-
-// Which of the four records of a byte are kept, by test w.
-pub fn kept_in(t: &[u32], x: usize, w: usize) -> usize
-    requires { Parted t.now × (x < 256) × (w < 4) }
-    ensures { (bits_of 4 result ≡ map (kept_by w) (records_of 4 x)) × (result < 16) }
-{
-    let h = t[x] as usize;
-    (h >> (16 + 4 * w)) % 16
-}
-
-// The run in an entry of a table: 256 times its bits, and their number.
-fn run_of(h: usize) -> Run
-    ensures { (result.records ≡ h % 256) × (result.bits ≡ h / 256) }
-{
-    Run {
-        records: h % 256,
-        bits: h / 256,
-    }
-}
-
-// The flags of four bits of each that are in either.
-pub fn run_at(t: &[u16], x: usize, y: usize) -> Run
-    requires { Runs t.now × (x < 16) × (y < 16) }
-    ensures { (records_of (result.bits / 2) result.records ≡ map record_of_flag (either_flags (bits_of 4 x) (bits_of 4 y))) × Short 4 result.records result.bits }
-{
-    run_of(t[16 * x + y] as usize)
-}
-
-// The records of a byte that have an edge.
-pub fn edged_at(t: &[u16], x: u8) -> Run
-    requires { Edged t.now }
-    ensures { (records_of (result.bits / 2) result.records ≡ those has_edge (records_of 4 x)) × Short 4 result.records result.bits }
-{
-    run_of(t[wide(x)] as usize)
+    out[at..at + 8].copy_from_slice(&v.to_be_bytes());
 }
