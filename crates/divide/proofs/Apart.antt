@@ -158,3 +158,18 @@ module _ {w : ℕ} {q : Bytes} {r n : ℕ} (a : Entries q r n) {i c : ℕ} {o z 
         ];
         size = t.size ∙ v.size;
       }
+
+-- ---- The byte, and the record, before record i
+pub apart_byte_before : {w : ℕ} {q : Bytes} {r n : ℕ} → Entries q r n → {i c k : ℕ} {o z u : Bytes} → Apart w q r n i c o z → r ≤ 4 * length q → 0 < i → MarkRoom r i k c (length q)
+    → k ≡ child_count (records_of 4 (get_or q ((i - 1) / 4) 0)) → ByteMarked w q r (records_at q (4 * ((i - 4) / 4)) 4) z ((i - 4) / 4) (c - k) u → Apart w q r n (i - 4) (c - k) o u
+apart_byte_before a {i} {c} {k} v room h m e t =
+    let last : i ≡ 4 * ((i - 4) / 4) + 4 = omega (arith, m.whole) in
+    let same : (i - 1) / 4 ≡ (i - 4) / 4 = omega (arith, last) in
+    let z : 4 * ((i - 4) / 4) ≡ i - 4 = omega (arith, last) in
+    rw z at (apart_byte a v ((i - 4) / 4) k last (rw same at e) m (omega (arith, last, v.marking.low, room)) t)
+
+pub apart_record_before : {w : ℕ} {q : Bytes} {r n : ℕ} → Entries q r n → {i c d : ℕ} {o z u : Bytes} → Apart w q r n i c o z → i ≡ suc (i - 1) → r ≤ 4 * length q
+    → d ≡ c - children (record_at q (i - 1)) → RecordMarked w q r (record_at q (i - 1)) z (i - 1) d u → Apart w q r n (i - 1) d o u
+apart_record_before a {i} {d} v e room h t =
+    let b = record_entries a v (i - 1) e in
+    apart_record a v (i - 1) d e (omega (arith, h, b.0)) (omega (arith, h, b.1)) room t

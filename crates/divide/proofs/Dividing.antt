@@ -23,7 +23,7 @@ use Rattle.merge.specs.Union.{flag_of, Merged}
 use Rattle.merge.proofs.Merging.{tree_levels, over_levels, edges_levels}
 use Rattle.restrict.specs.Restriction.{Marks}
 use Rattle.restrict.proofs.Subsets.{part_edges}
-use Rattle.divide.specs.Division.{MarksFit}
+use Rattle.divide.specs.Division.{MarksFit, DivideRoom}
 use Rattle.divide.proofs.Apart.{fits_less}
 
 -- ---- The flags of the parts
@@ -67,19 +67,23 @@ pub packed_as : {l k : List Bool} {o u p : Bytes} {b : ℕ} → l ≡ k → leng
 packed_as g h w = record { count = w.count ∙ ap length g; bytes = w.bytes ∙ ap pack_bits g; size = w.size ∙ h }
 
 -- ---- Two sets merged
-module _ {m x y : ℕ} {a c : Bytes} (ha : Holds m x a) (hc : Holds m y c) {q p : Bytes} {b n : ℕ} (v : Merged (entry_held m x a) (entry_held m y c) q p b n) where
+module _ {m k x y : ℕ} {a c : Bytes} (em : m ≡ k) (ha : Holds m x a) (hc : Holds k y c) {q p : Bytes} {b n : ℕ} (v : Merged (entry_held m x a) (entry_held k y c) q p b n) where
   pub merged_most : b ≤ x + y
   unfolding edge_count
   merged_most =
       let e : Entry = entry_held m x a in
-      let f : Entry = entry_held m y c in
+      let f : Entry = entry_held k y c in
       let z : edge_count (union_entry e f) ≡ b = ap length (sym v.edges) ∙ length_bits_in p b in
-      let w : e.width ≡ f.width = unfold entry_held entry_along in refl in
-      omega (arith, z, held_bits m x a ha, held_bits m y c hc, union_most e f w)
+      let w : e.width ≡ f.width = unfold entry_held entry_along in em in
+      omega (arith, z, held_bits m x a ha, held_bits k y c hc, union_most e f w)
 
   -- room for the union's marks
   pub union_fits : {z u : Bytes} → MarksFit ((x + y) / 2) z → length u ≡ length z → MarksFit (b / 2) u
   union_fits w e = fits_less w e (omega (arith, merged_most))
+
+  -- in each of the three rooms
+  pub all_fit : {o : Bytes} {s t u s' t' u' : Bytes} → DivideRoom x y o s t u → length s' ≡ length s → length t' ≡ length t → length u' ≡ length u → MarksFit (b / 2) s' × MarksFit (b / 2) t' × MarksFit (b / 2) u'
+  all_fit d i j l = (union_fits d.both i, union_fits d.only_first j, union_fits d.only_second l)
 
 -- ---- The edges of the parts
 module _ {e f : Entry} {q p z : Bytes} {b n : ℕ} (v : Merged e f q p b n) where

@@ -3,15 +3,16 @@
 
 ghost use Rattle.std.specs.Prelude.{◌+◌, ◌-◌, ◌*◌, ◌/◌, ◌%◌, ◌<◌, ◌≤◌, ◌≡◌, length, get_or};
 ghost use Rattle.loes.specs.Limits.{max_edges};
-ghost use Rattle.loes.specs.Held.{entry_held, Holds};
-ghost use Rattle.records.specs.Records.{record_at, records_at, children};
-ghost use Rattle.records.specs.Numbers.{records_of, overread};
-ghost use Rattle.records.specs.Tables.{Spreads, Parted, TablesLent, EdgedLent};
-ghost use Rattle.restrict.specs.Restriction.{child_count, Entries, RecordMarked, SinglesMarked, MarkRoom, Marks};
+ghost use Rattle.loes.specs.Held.{entry_held};
+ghost use Rattle.records.specs.Records.{record_of_code, record_at, records_at, children};
+ghost use Rattle.records.specs.Numbers.{records_of};
+ghost use Rattle.restrict.specs.Flags.{member_flag};
+ghost use Rattle.restrict.specs.Restriction.{child_count, Entries, RecordMarked, SinglesMarked, Marks};
 ghost use Rattle.divide.specs.Division.{ByteMarked, MarksFit, Divided, DivideRoom};
 
 use bits::RecordIndex;
-use restrict::{BOTH, FIRST_ONLY, SECOND_ONLY};
+use records::{EdgeBytes, EdgedTable, Kept, Tables};
+use restrict::{MarkedEntries, Members};
 
 // A number for each of three parts: edge bits, the bytes of a buffer, or those that were written.
 #[derive(Clone, Copy)]
@@ -44,34 +45,9 @@ fn mark_singles_for_three(
     restrict::mark_singles(e, z, i, d);
 }
 
-// How many edges the byte of record i - 1 has, if it can be marked whole; else 0.
-fn whole_edges(
-    spreads: &[u8],
-    parts: &[u32],
-    q: &[u8],
-    r: RecordIndex,
-    i: RecordIndex,
-    c: RecordIndex,
-) -> usize
-    requires i_nonzero { (0 < i.0) × ((i.0 - 1) / 4 < length q.now) }
-    requires spreads { 0 < length spreads.now → Spreads spreads.now × Parted parts.now }
-    ensures { 0 < result → (0 < length spreads.now) × MarkRoom r.0 i.0 result c.0 (length q.now) × (result ≡ child_count (records_of 4 (get_or q.now ((i.0 - 1) / 4) 0))) }
-{
-    if spreads.len() == 0 {
-        return 0;
-    }
-    let k = restrict::count_edges(parts, q[(i.0 - 1) / 4]);
-    if restrict::has_mark(r, i, k, c, q.len()) {
-        k
-    } else {
-        0
-    }
-}
-
-// The four records of byte j, whose entries are those from d on: all records, or all members. Which of the two is asked once, so that what the three look up together is looked up once.
+// The four records of byte j, whose entries are those from d on: all records, or all members. Which of the two is asked once, and what the three look up together stands before the first store, so that it is looked up once.
 fn mark_byte_for_three(
-    spreads: &[u8],
-    parts: &[u32],
+    tables: Tables<'_>,
     q: &[u8],
     x: &mut [u8],
     y: &mut [u8],
@@ -80,7 +56,6 @@ fn mark_byte_for_three(
     j: usize,
     d: RecordIndex,
 )
-    requires spreads { Spreads spreads.now × Parted parts.now }
     requires j_in_bounds { (j < length q.now) × (d.0 / 4 + 3 < length q.now) × (d.0 ≤ 4 * max_edges) × (4 * j ≤ r.0) }
     requires marks_fit { MarksFit r.0 x.old × MarksFit r.0 y.old × MarksFit r.0 z.old }
     requires j_bound { d.0 < r.0 → d.0 + child_count (records_of 4 (get_or q.now j 0)) ≤ r.0 }
@@ -90,20 +65,43 @@ fn mark_byte_for_three(
 {
     let e = q[j];
     if d.0 < r.0 {
-        let a = restrict::mark_byte(x, spreads, parts, restrict::BY_EDGE, e, d);
-        let b = restrict::mark_byte(y, spreads, parts, restrict::BY_EDGE, e, d);
-        let c = restrict::mark_byte(z, spreads, parts, restrict::BY_EDGE, e, d);
-        x[j] = a as u8;
-        y[j] = b as u8;
-        z[j] = c as u8;
+        let a = restrict::mark_byte(x, tables, Kept::Edged, e, d);
+        let b = restrict::mark_byte(y, tables, Kept::Edged, e, d);
+        let c = restrict::mark_byte(z, tables, Kept::Edged, e, d);
+        x[j] = a;
+        y[j] = b;
+        z[j] = c;
     } else {
-        let a = restrict::mark_byte(q, spreads, parts, BOTH as usize, e, d);
-        let b = restrict::mark_byte(q, spreads, parts, FIRST_ONLY as usize, e, d);
-        let c = restrict::mark_byte(q, spreads, parts, SECOND_ONLY as usize, e, d);
-        x[j] = a as u8;
-        y[j] = b as u8;
-        z[j] = c as u8;
+        let a = restrict::mark_byte(q, tables, Kept::Both, e, d);
+        let b = restrict::mark_byte(q, tables, Kept::FirstOnly, e, d);
+        let c = restrict::mark_byte(q, tables, Kept::SecondOnly, e, d);
+        x[j] = a;
+        y[j] = b;
+        z[j] = c;
     }
+}
+
+// Record j, which is e, for one part: its entries are those from d on.
+fn mark_record(
+    q: &[u8],
+    marks: &mut [u8],
+    r: RecordIndex,
+    members: Members,
+    j: RecordIndex,
+    e: u8,
+    d: RecordIndex,
+)
+    requires { (j.0 < r.0) × (e < 4) × (d.0 + e / 2 + e % 2 ≤ 4 * length q.now) × (length q.now ≤ max_edges) × MarksFit r.0 marks.old }
+    ensures { RecordMarked (member_flag members) q.now r.0 (record_of_code e) marks.old j.0 d.0 marks.new }
+{
+    let entries = MarkedEntries {
+        marks,
+        queue: q,
+        records: r,
+        members,
+    };
+    let kept = entries.kept_record(e, d);
+    records::put_record(marks, j, kept);
 }
 
 // Record j, whose entries are those before c: where they begin.
@@ -125,19 +123,15 @@ fn mark_record_for_three(
 {
     let e = records::record_at(q, j);
     let d = RecordIndex(c.0 - (e / 2 + e % 2) as usize);
-    let a = restrict::kept_record(q, x, r, BOTH, e, d);
-    let b = restrict::kept_record(q, y, r, FIRST_ONLY, e, d);
-    let h = restrict::kept_record(q, z, r, SECOND_ONLY, e, d);
-    records::put_record(x, j, a);
-    records::put_record(y, j, b);
-    records::put_record(z, j, h);
+    mark_record(q, x, r, Members::Both, j, e, d);
+    mark_record(q, y, r, Members::FirstOnly, j, e, d);
+    mark_record(q, z, r, Members::SecondOnly, j, e, d);
     d
 }
 
 // All records, from the last to the first: by blocks and bytes where it can be.
 fn mark(
-    spreads: &[u8],
-    parts: &[u32],
+    tables: Option<Tables<'_>>,
     q: &[u8],
     x: &mut [u8],
     y: &mut [u8],
@@ -147,58 +141,50 @@ fn mark(
 )
     requires n_bound { (r.0 + n ≤ 4 * length q.now) × (length q.now ≤ max_edges) × Entries q.now r.0 n }
     requires marks_fit { MarksFit r.0 x.old × MarksFit r.0 y.old × MarksFit r.0 z.old }
-    requires spreads { 0 < length spreads.now → Spreads spreads.now × Parted parts.now }
     ensures marks { Marks 3 q.now r.0 n x.new × Marks 1 q.now r.0 n y.new × Marks 2 q.now r.0 n z.new }
     ensures x_len_unchanged { (length x.new ≡ length x.old) × (length y.new ≡ length y.old) × (length z.new ≡ length z.old) }
 {
     let mut i = r.0;
     let mut c = r.0 + n;
+    // no `for`: a step is of sixteen records, four or one, by what is found
     while i > 0 {
         if restrict::has_singles(q, r, RecordIndex(i), RecordIndex(c)) {
             i -= restrict::SINGLES;
             c -= restrict::SINGLES;
             mark_singles_for_three(q, x, y, z, RecordIndex(i), RecordIndex(c));
+        } else if let Some(lent) = tables
+            && let Some(k) = restrict::whole_edges(lent, q, r, RecordIndex(i), RecordIndex(c))
+        {
+            i -= 4;
+            c -= k;
+            mark_byte_for_three(lent, q, x, y, z, r, i / 4, RecordIndex(c));
         } else {
-            let k = whole_edges(spreads, parts, q, r, RecordIndex(i), RecordIndex(c));
-            if k > 0 {
-                i -= 4;
-                c -= k;
-                mark_byte_for_three(spreads, parts, q, x, y, z, r, i / 4, RecordIndex(c));
-            } else {
-                i -= 1;
-                let d = mark_record_for_three(q, x, y, z, r, RecordIndex(i), RecordIndex(c));
-                c = d.0;
-            }
+            i -= 1;
+            let d = mark_record_for_three(q, x, y, z, r, RecordIndex(i), RecordIndex(c));
+            c = d.0;
         }
     }
 }
 
-// ---- The edges of the three parts, each in front of one of the rooms: the queue is free once the marks are made, and each room of marks once its records are moved.
+// ---- The edges of the three parts of two sets of one width, each in front of one of the rooms: the queue is free once the marks are made, and each room of marks once its records are moved.
 pub fn divide(
-    m: usize,
-    a: &[u8],
-    ba: usize,
-    b: &[u8],
-    bb: usize,
-    spreads: &[u8],
-    parts: &[u32],
-    runs: &[u16],
-    edged: &[u16],
+    a: EdgeBytes<'_>,
+    b: EdgeBytes<'_>,
+    tables: Option<Tables<'_>>,
+    edged: Option<EdgedTable<'_>>,
     q: &mut [u8],
     x: &mut [u8],
     y: &mut [u8],
     z: &mut [u8],
 ) -> Three
-    requires holds { Holds m ba a.now × (ba / 2 + overread ≤ 4 * length a.now) }
-    requires holds_2 { Holds m bb b.now × (bb / 2 + overread ≤ 4 * length b.now) }
-    requires tables_lent { TablesLent spreads.now parts.now runs.now × EdgedLent edged.now }
-    requires divide_room { DivideRoom ba bb q.old x.old y.old z.old }
-    ensures { Divided (entry_held m ba a.now) (entry_held m bb b.now) q.old x.old y.old q.new x.new y.new result }
+    requires one_width { a.width ≡ b.width }
+    requires divide_room { DivideRoom a.bits b.bits q.old x.old y.old z.old }
+    ensures { Divided (entry_held a.entry.width a.entry.bits a.entry.bytes.now) (entry_held b.entry.width b.entry.bits b.entry.bytes.now) q.old x.old y.old q.new x.new y.new result }
 {
-    let u = merge::merge(m, a, ba, b, bb, spreads, parts, runs, q);
+    let u = merge::merge(a, b, tables, q);
     let r = RecordIndex(u.edges / 2);
     let n = u.members;
-    mark(spreads, parts, q, x, y, z, r, n);
+    mark(tables, q, x, y, z, r, n);
     let both = restrict::collect(x, edged, r, q);
     let only_first = restrict::collect(y, edged, r, x);
     let only_second = restrict::collect(z, edged, r, y);

@@ -1,6 +1,7 @@
 -- Restricting in bytes, from the last record to the first.
 use mathlib.Core.Path.{◌≡◌, refl, sym, ap, ap₂, ◌∙◌}
 use Prim.Native.Nat.{ℕ, zero, suc, ◌+◌, ◌-◌, ◌*◌, ◌/◌, ◌%◌, ◌≤◌, ◌<◌}
+use mir.Val.{bool_byte}
 use mathlib.Core.Bool.{Bool, true, false, ◌&&◌}
 use mathlib.Core.List.{List, [], ◌∷◌, ◌++◌, map}
 use native.Mathlib.Omega.{arith}
@@ -16,7 +17,7 @@ use Rattle.loes.proofs.Bytes.{length_tabulate, get_d_tabulate}
 use Rattle.loes.proofs.Bits.{tabulate_ext, bit_odd, drop_tabulate}
 use Rattle.records.specs.Records.{empty_record, has_edge, children, children_before, record_of_code, code_in, record_at, records_to, flag_at, is_flag, Put}
 use Rattle.restrict.specs.Restriction.{mask_at, mask_record, masked_from, flag_mask, kept_at, Entries, RecordMarked, Marks, Marked}
-use Rattle.records.proofs.Codes.{record_eq, code_at}
+use Rattle.records.proofs.Codes.{cases4, record_eq, code_at}
 
 -- ---- One record
 bits_code : (u v : Bool) → record_of_code (bit u * 2 + bit v) ≡ record { on_zero = u; on_one = v }
@@ -40,6 +41,34 @@ code_mask f d x h = ap (λ t. record { on_zero = odd (x / 2) && f d; on_one = od
 
 pub kept_code : (f : ℕ → Bool) (c x a b : ℕ) → x < 4 → a ≡ bit (odd (x / 2) && f c) → b ≡ bit (odd x && f (c + x / 2)) → record_of_code (a * 2 + b) ≡ mask_at f c (record_of_code x)
 kept_code f c x a b h ea eb = rw (ea, eb) (bits_code (odd (x / 2) && f c) (odd x && f (c + x / 2))) ∙ code_mask f c x h
+
+-- the same with both as numbers that are added
+pub kept_bools : (f : ℕ → Bool) (c x : ℕ) (u v : Bool) → x < 4 → u ≡ (odd (x / 2) && f c) → v ≡ (odd x && f (c + x / 2)) → record_of_code (bool_byte u * 2 + bool_byte v) ≡ mask_at f c (record_of_code x)
+kept_bools f c x u v h eu ev = ap record_of_code (bools_bits u v) ∙ kept_code f c x (bit u) (bit v) h (ap bit eu) (ap bit ev)
+  where
+    bools_bits : (a b : Bool) → bool_byte a * 2 + bool_byte b ≡ bit a * 2 + bit b
+    bools_bits true true = refl
+    bools_bits true false = refl
+    bools_bits false true = refl
+    bools_bits false false = refl
+
+pub bools_less : (u v : Bool) → bool_byte u * 2 + bool_byte v < 4
+bools_less true true = omega arith
+bools_less true false = omega arith
+bools_less false true = omega arith
+bools_less false false = omega arith
+
+pub code_edge : (x : ℕ) → x < 4 → ltb 0 x ≡ has_edge (record_of_code x)
+unfolding has_edge record_of_code odd
+code_edge = cases4 (λ x. ltb 0 x ≡ has_edge (record_of_code x)) refl refl refl refl
+
+pub odd_yes : (x : ℕ) → x % 2 ≡ 1 → odd x ≡ true
+unfolding odd
+odd_yes x e = rw e
+
+pub odd_no : (x : ℕ) → x % 2 ≡ 0 → odd x ≡ false
+unfolding odd
+odd_no x e = rw e
 
 pub marked_ok : {w : ℕ} {q z p : Bytes} {r i c v : ℕ} {s : Record} → record_of_code v ≡ mask_at (kept_at w z q r) c s → Put i v z p → RecordMarked w q r s z i c p
 marked_ok e t = record { here = t.here ∙ e; other = t.other; size = t.size }
@@ -189,6 +218,21 @@ module _ {w : ℕ} {q : Bytes} {r n j c x : ℕ} {p : Bytes} (a : Entries q r n)
         size = t.size ∙ v.size;
       }
 
+-- the record before record i, as p has it
+module _ {w : ℕ} {q : Bytes} {r n i c x : ℕ} {p : Bytes} (a : Entries q r n) (v : Marking w q r n i c p) (some : 0 < i) (small : x < 4) (ex : record_of_code x ≡ record_at p (i - 1)) where
+  at_suc : Marking w q r n (suc (i - 1)) c p
+  at_suc = let z : suc (i - 1) ≡ i = omega arith in rw z v
+
+  as_was : record_of_code x ≡ record_at q (i - 1)
+  as_was = ex ∙ v.front (i - 1) (omega arith)
+
+  -- its entries are there
+  pub before_entries : (x / 2 + x % 2 ≤ c) × (c ≤ r + n)
+  before_entries = ((down a at_suc small as_was).0, (inside a at_suc small as_was).1)
+
+  pub mark_before : {u : Bytes} → RecordMarked w p r (record_of_code x) p (i - 1) (c - (x / 2 + x % 2)) u → Marking w q r n (i - 1) (c - (x / 2 + x % 2)) u
+  mark_before t = mark_more a at_suc small as_was t
+
 -- y has the records of the byte of record i - 1, as they were
 pub record Kept (q : Bytes) (i y : ℕ) : Type 0 where
   pub same : (k : ℕ) → k < i → k / 4 ≡ (i - 1) / 4 → record_of_code (code_in y (k % 4)) ≡ record_at q k
@@ -203,6 +247,10 @@ kept_read {i} {p} v e =
 
 pub kept_on : {q : Bytes} {i y : ℕ} → Kept q i y → 0 < (i - 1) % 4 → Kept q (i - 1) y
 kept_on f g = record { same = λ k h s. f.same k (omega arith) (omega arith) }
+
+-- the record before record i, as it is read there
+pub kept_code_of : {w : ℕ} {q : Bytes} {r n i c y x : ℕ} {p : Bytes} → Marking w q r n i c p → Kept q i y → 0 < i → x ≡ code_in y ((i - 1) % 4) → record_of_code x ≡ record_at p (i - 1)
+kept_code_of {i} v f some e = ap record_of_code e ∙ f.same (i - 1) (omega arith) refl ∙ sym (v.front (i - 1) (omega arith))
 
 done_out : (w : ℕ) (q p : Bytes) (r n c : ℕ) → Marking w q r n 0 c p → records_to p r ≡ masked_from 1 (records_to q r) (tabulate (flag_mask w q r) n)
 done_out w q p zero n c v = unfold records_to tabulate masked_from in refl

@@ -16,6 +16,9 @@ use Rattle.loes.proofs.Bits.{tabulate_ext}
 use Rattle.records.specs.Records.{empty_record, has_edge, children, record_of_code, record_at, records_at, next_of, rest_of, flag_at, is_flag, flag_of_record, first_count, second_count, with_record, Put}
 use Rattle.records.specs.Numbers.{records_of, bits_of}
 use Rattle.records.specs.Tables.{spread, kept_by}
+use Rattle.restrict.specs.declared.members.Members.{Members}
+use Rattle.restrict.specs.declared.members.Members.TheVariants.{FirstOnly, SecondOnly, Both}
+use Rattle.restrict.specs.Flags.{member_flag}
 use Rattle.restrict.specs.Restriction.{kept_at, Entries, RecordMarked, mask_at, masked_at, child_count, MarkRoom}
 use Rattle.records.proofs.Codes.{cases4, odd_eq, record_eq, code_at, put_ok, records_same}
 use Rattle.records.proofs.Numbers.{cat, at_add, length_run, byte_run, halves}
@@ -143,10 +146,11 @@ pub kept_member : (w : ℕ) (z q : Bytes) (r m : ℕ) → 1 ≤ w → r ≤ m �
 unfolding kept_at kept_by flag_at
 kept_member w z q r m h l = let e : eqb w 0 ≡ false = eq_no w 0 (λ f. omega arith) in rw (lt_no m r l, e)
 
--- the test is one that the tables have
-pub test_small : (t w : ℕ) (b : Bool) → t ≡ cond b 0 w → w ≤ 3 → t < 4
-test_small t w true e h = omega arith
-test_small t w false e h = omega arith
+-- a flag is no test of records
+pub some_member : (m : Members) → 1 ≤ member_flag m
+some_member FirstOnly = omega arith
+some_member SecondOnly = omega arith
+some_member Both = omega arith
 
 kept_test : (w : ℕ) (p : Bytes) (r d t k : ℕ) → 1 ≤ w → t ≡ cond (ltb d r) 0 w → (d < r → d + k ≤ r) → (m : ℕ) → m < k → kept_by t (record_at p (d + m)) ≡ kept_at w p p r (d + m)
 kept_test w p r d t k h et s m l = elim (dec_le (suc d) r) [

@@ -1,1 +1,2 @@
 pub mod Restriction
+pub mod Flags

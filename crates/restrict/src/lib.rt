@@ -1,134 +1,70 @@
 // The edge bytes of a subset: the edges that lead to no kept member are dropped, from the last to the first, then the empty records.
 #![tactic(auto)]
 
-ghost use Rattle.std.specs.Prelude.{ℕ, ◌+◌, ◌-◌, ◌*◌, ◌/◌, ◌%◌, ◌^◌, ◌<◌, ◌≤◌, ◌≡◌, true, ◌&&◌, cond, ◌++◌, map, length, get_or, ltb, eqb};
+ghost use Rattle.std.specs.Prelude.{ℕ, ◌+◌, ◌-◌, ◌*◌, ◌/◌, ◌%◌, ◌^◌, ◌<◌, ◌≤◌, ◌≡◌, true, cond, ◌++◌, map, length, get_or, ltb, IfSome};
 ghost use Rattle.loes.specs.Limits.{max_edges};
-ghost use Rattle.loes.specs.Bytes.{odd, bit};
 ghost use Rattle.loes.specs.Keys.{those};
 ghost use Rattle.loes.specs.Edges.{record_bits};
-ghost use Rattle.loes.specs.Held.{entry_held, Holds};
+ghost use Rattle.loes.specs.Held.{entry_held};
 ghost use Rattle.records.specs.Records.{empty_record, record_of_code, record_at, records_at, records_to, has_edge, children, Packed};
-ghost use Rattle.records.specs.Numbers.{records_of, bits_of, Short, overread};
-ghost use Rattle.records.specs.Tables.{spread, by_edge, kept_by, Spreads, Parted, Edged, TablesLent, EdgedLent};
+ghost use Rattle.records.specs.Numbers.{records_of, bits_of, Short};
+ghost use Rattle.records.specs.Tables.{spread, by_edge, kept_by};
+ghost use Rattle.records.specs.Kinds.{number_of_kept};
 ghost use Rattle.merge.specs.Union.{QueueRoom};
-ghost use Rattle.restrict.specs.Restriction.{Subtracts, kept_at, mask_at, masked_at, child_count, Entries, kept_singles, SingleRoom, SinglesMarked, MarkRoom, Marked, BlockCompacted, Compacted};
+ghost use Rattle.restrict.specs.Flags.{member_flag};
+ghost use Rattle.restrict.specs.Restriction.{Subtracts, masked_at, child_count, Entries, RecordMarked, kept_singles, SingleRoom, SinglesMarked, MarkRoom, Marked, BlockCompacted, Compacted};
+
+mod entries;
+mod members;
 
 use bits::RecordIndex;
-use records::Run;
+pub use entries::MarkedEntries;
+pub use members::Members;
+use records::{EdgeBytes, EdgedTable, Kept, Run, Tables};
 
-// ---- Members
-
-// The flags of members: only the first set has it, only the second, both.
-pub const FIRST_ONLY: u8 = 1;
-
-pub const SECOND_ONLY: u8 = 2;
-
-pub const BOTH: u8 = 3;
-
-// ---- Restrict
-
-// 1 if the record has an edge, else 0.
-fn has_edge(x: u8) -> u8
-    requires { x < 4 }
-    ensures { (result ≡ bit (has_edge (record_of_code x))) × (result ≤ 1) }
-{
-    if x > 0 { 1 } else { 0 }
-}
-
-// 1 if the flag is w, else 0.
-fn is_flag(x: u8, w: u8) -> u8
-    ensures { (result ≡ bit (eqb x w)) × (result ≤ 1) }
-{
-    if x == w { 1 } else { 0 }
-}
-
-// 1 if entry j is kept: a record with an edge left in z, or a member whose flag in q is w.
-fn entry(q: &[u8], z: &[u8], r: RecordIndex, w: u8, j: RecordIndex) -> u8
-    requires { (j.0 < 4 * length q.now) × (r.0 ≤ 4 * length z.now) }
-    ensures { (result ≡ bit (kept_at w z.now q.now r.0 j.0)) × (result ≤ 1) }
-{
-    if j.0 < r.0 {
-        has_edge(records::record_at(z, j))
-    } else {
-        is_flag(records::record_at(q, j), w)
-    }
-}
-
-// The same if f is odd, else 0.
-fn entry_if(f: u8, q: &[u8], z: &[u8], r: RecordIndex, w: u8, j: RecordIndex) -> u8
-    requires { (odd f ≡ true → j.0 < 4 * length q.now) × (r.0 ≤ 4 * length z.now) }
-    ensures { (result ≡ bit (odd f && kept_at w z.now q.now r.0 j.0)) × (result ≤ 1) }
-{
-    if f % 2 == 1 { entry(q, z, r, w, j) } else { 0 }
-}
-
-// Record x less the edges that are not kept, whose entries are from c on.
-pub fn kept_record(q: &[u8], z: &[u8], r: RecordIndex, w: u8, x: u8, c: RecordIndex) -> u8
-    requires { (c.0 + x / 2 + x % 2 ≤ 4 * length q.now) × (x < 4) × (length q.now ≤ max_edges) × (r.0 ≤ 4 * length z.now) }
-    ensures { (record_of_code result ≡ mask_at (kept_at w z.now q.now r.0) c.0 (record_of_code x)) × (result < 4) }
-{
-    let h = (x / 2) as usize;
-    let a = entry_if(x / 2, q, z, r, w, c);
-    let b = entry_if(x, q, z, r, w, RecordIndex(c.0 + h));
-    a * 2 + b
-}
+// ---- A byte of edges
 
 // How many edges a byte has.
-pub fn count_edges(parts: &[u32], x: u8) -> usize
-    requires { Parted parts.now }
+fn count_edges(tables: Tables<'_>, x: u8) -> usize
     ensures { (result ≡ child_count (records_of 4 x)) × (result ≤ 8) }
 {
-    let h = records::parts_at(parts, x);
+    let h = tables.parts_at(x);
     h.first + h.second
 }
 
-// Two records in x, less the edges whose entries in v, taken in order, fail test w.
-fn mark_half(spreads: &[u8], parts: &[u32], w: usize, x: usize, v: usize) -> usize
-    requires { Spreads spreads.now × Parted parts.now × (w < 4) × (x < 16) × (v < 256) }
-    ensures { (bits_of 4 result ≡ map (kept_by w) (spread (bits_of 4 x) (records_of 4 v))) × (result < 16) }
+// Two records in x, less the edges whose entries in v, taken in order, are not kept.
+fn mark_half(tables: Tables<'_>, kept: Kept, x: usize, v: usize) -> usize
+    requires { (x < 16) × (v < 256) }
+    ensures { (bits_of 4 result ≡ map (kept_by (number_of_kept kept)) (spread (bits_of 4 x) (records_of 4 v))) × (result < 16) }
 {
-    let u = records::spread_at(spreads, x, v);
-    records::kept_in(parts, u, w)
+    tables.kept_in(tables.spread_at(x, v), kept)
 }
 
-// The four records of a byte of edges, less the edges whose entries, from d on, fail test w.
-pub fn mark_byte(q: &[u8], spreads: &[u8], parts: &[u32], w: usize, x: u8, d: RecordIndex) -> usize
-    requires w_bound { (w < 4) × (d.0 / 4 + 3 < length q.now) × (d.0 ≤ 4 * max_edges) }
-    requires spreads { Spreads spreads.now × Parted parts.now }
-    ensures { (records_of 4 result ≡ masked_at (λ m. kept_by w (record_at q.now m)) d.0 (records_of 4 x)) × (result < 256) }
+// The four records of a byte of edges, less the edges whose entries, from d on, are not kept.
+pub fn mark_byte(q: &[u8], tables: Tables<'_>, kept: Kept, x: u8, d: RecordIndex) -> u8
+    requires { (d.0 / 4 + 3 < length q.now) × (d.0 ≤ 4 * max_edges) }
+    ensures { records_of 4 result ≡ masked_at (λ m. kept_by (number_of_kept kept) (record_at q.now m)) d.0 (records_of 4 x) }
 {
     let v = records::window(q, d);
-    let n = count_edges(parts, x / 16);
-    let a = mark_half(
-        spreads,
-        parts,
-        w,
-        records::wide(x / 16),
-        records::four_in(v, 0),
-    );
-    let b = mark_half(
-        spreads,
-        parts,
-        w,
-        records::wide(x % 16),
-        records::four_in(v, n),
-    );
-    a * 16 + b
+    let n = count_edges(tables, x / 16);
+    let a = mark_half(tables, kept, records::wide(x / 16), records::four_in(v, 0));
+    let b = mark_half(tables, kept, records::wide(x % 16), records::four_in(v, n));
+    (a * 16 + b) as u8
 }
 
-// The test of a record: that it has an edge.
-pub const BY_EDGE: usize = 0;
-
-// The test of entry d: of a member, that its flag is w.
-fn test_at(d: RecordIndex, r: RecordIndex, w: u8) -> usize
-    ensures { result ≡ cond (ltb d.0 r.0) by_edge w }
+// The test of entry d: of a record, that it has an edge, of a member, that it is one of those asked for.
+fn test_at(d: RecordIndex, r: RecordIndex, members: Members) -> Kept
+    ensures { number_of_kept result ≡ cond (ltb d.0 r.0) by_edge (member_flag members) }
 {
-    if d.0 < r.0 { BY_EDGE } else { w as usize }
+    if d.0 < r.0 {
+        Kept::Edged
+    } else {
+        members.kept()
+    }
 }
 
-// Whether a byte of k edges can be marked whole: the first i records end with its four, the k entries before c stand behind them, all of
-// them records, or members, and there are the bytes that are read.
-pub fn has_mark(r: RecordIndex, i: RecordIndex, k: usize, c: RecordIndex, l: usize) -> bool
+// Whether a byte of k edges can be marked whole: the first i records end with its four, the k entries before c stand behind them, all of them records, or members, and there are the bytes that are read.
+fn has_mark(r: RecordIndex, i: RecordIndex, k: usize, c: RecordIndex, l: usize) -> bool
     ensures { result ≡ true → MarkRoom r.0 i.0 k c.0 l }
 {
     if i.0 % 4 > 0 {
@@ -148,6 +84,27 @@ pub fn has_mark(r: RecordIndex, i: RecordIndex, k: usize, c: RecordIndex, l: usi
     }
     d / 4 + 3 < l
 }
+
+// How many edges the byte of record i - 1 has, if it can be marked whole.
+pub fn whole_edges(
+    tables: Tables<'_>,
+    q: &[u8],
+    r: RecordIndex,
+    i: RecordIndex,
+    c: RecordIndex,
+) -> Option<usize>
+    requires { (0 < i.0) × ((i.0 - 1) / 4 < length q.now) }
+    ensures { IfSome result (λ k. MarkRoom r.0 i.0 k c.0 (length q.now) × (k ≡ child_count (records_of 4 (get_or q.now ((i.0 - 1) / 4) 0)))) }
+{
+    let k = count_edges(tables, q[(i.0 - 1) / 4]);
+    if has_mark(r, i, k, c, q.len()) {
+        Some(k)
+    } else {
+        None
+    }
+}
+
+// ---- Sixteen records of one edge each
 
 // Sixteen records from record i on, as one number.
 fn sixteen(l: &[u8], i: RecordIndex) -> usize
@@ -213,45 +170,58 @@ pub fn mark_singles(y: usize, z: &mut [u8], i: RecordIndex, d: RecordIndex)
     let at = i.0 / 4;
     let e = sixteen(z, d);
     let k = keep_singles(y, e);
-    z[at] = (k >> 24) as u8;
-    z[at + 1] = ((k >> 16) % 256) as u8;
-    z[at + 2] = ((k >> 8) % 256) as u8;
-    z[at + 3] = (k % 256) as u8;
+    z[at..at + 4].copy_from_slice(&(k as u32).to_be_bytes());
 }
 
-// The first r records of q less the edges under which no member has flag w, from the last to the first, in their place: by blocks and bytes where it can be.
-fn mark_bytes(spreads: &[u8], parts: &[u32], q: &mut [u8], r: RecordIndex, n: usize, w: u8)
-    requires n_bound { (r.0 + n ≤ 4 * length q.old) × (length q.old ≤ max_edges) × Entries q.old r.0 n }
-    requires spreads { Spreads spreads.now × Parted parts.now }
-    requires le_w { (1 ≤ w) × (w ≤ 3) }
-    ensures { Marked w q.old r.0 n q.new }
+// ---- All records of a union
+
+// Record i, which is x, less the edges whose entries, from d on, are not kept.
+fn mark_record(
+    q: &mut [u8],
+    i: RecordIndex,
+    x: u8,
+    r: RecordIndex,
+    members: Members,
+    d: RecordIndex,
+)
+    requires { (i.0 < r.0) × (r.0 ≤ 4 * length q.old) × (length q.old ≤ max_edges) × (x < 4) × (d.0 + x / 2 + x % 2 ≤ 4 * length q.old) }
+    ensures { RecordMarked (member_flag members) q.old r.0 (record_of_code x) q.old i.0 d.0 q.new }
+{
+    let entries = MarkedEntries {
+        marks: q,
+        queue: q,
+        records: r,
+        members,
+    };
+    let z = entries.kept_record(x, d);
+    records::put_record(q, i, z);
+}
+
+// The first r records of q less the edges under which none of the members is, from the last to the first, in their place: by blocks and bytes where it can be.
+fn mark_bytes(tables: Tables<'_>, q: &mut [u8], r: RecordIndex, n: usize, members: Members)
+    requires { (r.0 + n ≤ 4 * length q.old) × (length q.old ≤ max_edges) × Entries q.old r.0 n }
+    ensures { Marked (member_flag members) q.old r.0 n q.new }
 {
     let mut i = r.0;
     let mut c = r.0 + n;
+    // no `for`: a step is of sixteen records, four or one, by what is found
     while i > 0 {
         if has_singles(q, r, RecordIndex(i), RecordIndex(c)) {
             i -= SINGLES;
             c -= SINGLES;
             let y = records::block(q, i / 4);
             mark_singles(y, q, RecordIndex(i), RecordIndex(c));
+        } else if let Some(k) = whole_edges(tables, q, r, RecordIndex(i), RecordIndex(c)) {
+            let j = (i - 1) / 4;
+            let d = RecordIndex(c - k);
+            q[j] = mark_byte(q, tables, test_at(d, r, members), q[j], d);
+            i -= 4;
+            c -= k;
         } else {
-            let j = i - 1;
-            let y = q[j / 4];
-            let k = count_edges(parts, y);
-            if has_mark(r, RecordIndex(i), k, RecordIndex(c), q.len()) {
-                let d = RecordIndex(c - k);
-                let z = mark_byte(q, spreads, parts, test_at(d, r, w), y, d);
-                q[j / 4] = z as u8;
-                c = d.0;
-                i -= 4;
-            } else {
-                let x = records::record_at(q, RecordIndex(j));
-                let d = c - (x / 2 + x % 2) as usize;
-                let z = kept_record(q, q, r, w, x, RecordIndex(d));
-                records::put_record(q, RecordIndex(j), z);
-                c = d;
-                i = j;
-            }
+            i -= 1;
+            let x = records::record_at(q, RecordIndex(i));
+            c -= (x / 2 + x % 2) as usize;
+            mark_record(q, RecordIndex(i), x, r, members, RecordIndex(c));
         }
     }
 }
@@ -265,21 +235,16 @@ fn byte_before(q: &[u8], i: RecordIndex) -> u8
 }
 
 // The same record by record. Each byte is read before it is changed, so that no record waits for the one behind it.
-fn mark_singly(q: &mut [u8], r: RecordIndex, n: usize, w: u8)
+fn mark_singly(q: &mut [u8], r: RecordIndex, n: usize, members: Members)
     requires { (r.0 + n ≤ 4 * length q.old) × (length q.old ≤ max_edges) × Entries q.old r.0 n }
-    ensures { Marked w q.old r.0 n q.new }
+    ensures { Marked (member_flag members) q.old r.0 n q.new }
 {
-    let mut i = r.0;
     let mut c = r.0 + n;
     let mut y = byte_before(q, r);
-    while i > 0 {
-        let j = i - 1;
+    for j in (0..r.0).rev() {
         let x = records::record_in(y, j % 4);
-        let d = c - (x / 2 + x % 2) as usize;
-        let z = kept_record(q, q, r, w, x, RecordIndex(d));
-        records::put_record(q, RecordIndex(j), z);
-        c = d;
-        i = j;
+        c -= (x / 2 + x % 2) as usize;
+        mark_record(q, RecordIndex(j), x, r, members, RecordIndex(c));
         if j % 4 == 0 {
             y = byte_before(q, RecordIndex(j));
         }
@@ -287,51 +252,34 @@ fn mark_singly(q: &mut [u8], r: RecordIndex, n: usize, w: u8)
 }
 
 // The same, by bytes if tables are lent.
-fn mark(spreads: &[u8], parts: &[u32], q: &mut [u8], r: RecordIndex, n: usize, w: u8)
-    requires n_bound { (r.0 + n ≤ 4 * length q.old) × (length q.old ≤ max_edges) × Entries q.old r.0 n }
-    requires spreads { 0 < length spreads.now → Spreads spreads.now × Parted parts.now }
-    requires le_w { (1 ≤ w) × (w ≤ 3) }
-    ensures { Marked w q.old r.0 n q.new }
+fn mark(tables: Option<Tables<'_>>, q: &mut [u8], r: RecordIndex, n: usize, members: Members)
+    requires { (r.0 + n ≤ 4 * length q.old) × (length q.old ≤ max_edges) × Entries q.old r.0 n }
+    ensures { Marked (member_flag members) q.old r.0 n q.new }
 {
-    if spreads.len() > 0 {
-        mark_bytes(spreads, parts, q, r, n, w);
-    } else {
-        mark_singly(q, r, n, w);
+    match tables {
+        Some(lent) => mark_bytes(lent, q, r, n, members),
+        None => mark_singly(q, r, n, members),
     }
 }
+
+// ---- The records that are left
 
 // The records of two bytes that have an edge.
-fn bytes_run(edged: &[u16], x: u8, y: u8) -> Run
-    requires { Edged edged.now }
+fn bytes_run(edged: EdgedTable<'_>, x: u8, y: u8) -> Run
     ensures { (records_of (result.bits / 2) result.records ≡ those has_edge (records_of 4 x ++ records_of 4 y)) × Short 8 result.records result.bits }
 {
-    let h = records::edged_at(edged, x);
-    let g = records::edged_at(edged, y);
-    records::run_and(h, g)
-}
-
-// The records that are moved at a time.
-const MOVED: usize = 16;
-
-// Whether the records of four bytes can be moved: a table is lent, the next n records begin with theirs, and there is room behind the first k of l bytes.
-fn has_run(entries: usize, i: RecordIndex, n: usize, k: RecordIndex, l: usize) -> bool
-    ensures { result ≡ true → (0 < entries) × (i.0 % 4 ≡ 0) × (16 ≤ n) × (k.0 / 4 + 7 < l) }
-{
-    if n < MOVED {
-        return false;
-    }
-    if i.0 % 4 > 0 {
-        return false;
-    }
-    if entries == 0 {
-        return false;
-    }
-    k.0 / 4 + 7 < l
+    records::run_and(edged.edged_at(x), edged.edged_at(y))
 }
 
 // The records of the four bytes from byte j of q on that have an edge, put behind the first k.
-fn compact_block(q: &[u8], edged: &[u16], j: usize, out: &mut [u8], k: RecordIndex) -> RecordIndex
-    requires { (j + 3 < length q.now) × (k.0 / 4 + 7 < length out.old) × (k.0 ≤ 4 * max_edges) × Edged edged.now }
+fn compact_block(
+    q: &[u8],
+    edged: EdgedTable<'_>,
+    j: usize,
+    out: &mut [u8],
+    k: RecordIndex,
+) -> RecordIndex
+    requires { (j + 3 < length q.now) × (k.0 / 4 + 7 < length out.old) × (k.0 ≤ 4 * max_edges) }
     ensures { BlockCompacted q.now j out.old k.0 out.new result.0 }
 {
     let h = bytes_run(edged, q[j], q[j + 1]);
@@ -342,32 +290,57 @@ fn compact_block(q: &[u8], edged: &[u16], j: usize, out: &mut [u8], k: RecordInd
     RecordIndex(k.0 + n)
 }
 
-// The first r records of q that have an edge, moved together.
-fn compact(q: &[u8], edged: &[u16], r: RecordIndex, out: &mut [u8]) -> RecordIndex
-    requires r_bound { (r.0 ≤ 4 * length q.now) × (r.0 ≤ 4 * max_edges) × (length (those has_edge (records_to q.now r.0)) < 4 * length out.old) }
-    requires edged_lent { EdgedLent edged.now }
-    ensures { Compacted q.now r.0 out.old out.new result.0 }
+// How many records were looked at, and how many of them have an edge.
+#[derive(Clone, Copy)]
+struct Moved {
+    from: RecordIndex,
+    to: RecordIndex,
+}
+
+// The records that are moved at a time.
+const MOVED: usize = 16;
+
+// The first records of q, of r, that have an edge, moved together by blocks while there is room behind them.
+fn compact_blocks(q: &[u8], edged: EdgedTable<'_>, r: RecordIndex, out: &mut [u8]) -> Moved
+    requires { (r.0 ≤ 4 * length q.now) × (r.0 ≤ 4 * max_edges) }
+    ensures { Compacted q.now result.from.0 out.old out.new result.to.0 × (result.from.0 ≤ r.0) }
 {
-    let end = r.0;
     let mut i = 0;
     let mut k = RecordIndex(0);
-    while i < end {
-        if has_run(edged.len(), RecordIndex(i), end - i, k, out.len()) {
-            k = compact_block(q, edged, i / 4, out, k);
-            i += MOVED;
-        } else {
-            let x = records::record_at(q, RecordIndex(i));
-            k = records::push(out, k, x);
-            i += 1;
-        }
+    // no `for`: it ends too where there is no more room
+    while MOVED <= r.0 - i && k.0 / 4 + 7 < out.len() {
+        k = compact_block(q, edged, i / 4, out, k);
+        i += MOVED;
+    }
+    Moved {
+        from: RecordIndex(i),
+        to: k,
+    }
+}
+
+// The first r records of q that have an edge, moved together: by blocks if a table is lent.
+fn compact(q: &[u8], edged: Option<EdgedTable<'_>>, r: RecordIndex, out: &mut [u8]) -> RecordIndex
+    requires { (r.0 ≤ 4 * length q.now) × (r.0 ≤ 4 * max_edges) × (length (those has_edge (records_to q.now r.0)) < 4 * length out.old) }
+    ensures { Compacted q.now r.0 out.old out.new result.0 }
+{
+    let moved = match edged {
+        Some(lent) => compact_blocks(q, lent, r, out),
+        None => Moved {
+            from: RecordIndex(0),
+            to: RecordIndex(0),
+        },
+    };
+    let mut k = moved.to;
+    for i in moved.from.0..r.0 {
+        let x = records::record_at(q, RecordIndex(i));
+        k = records::push(out, k, x);
     }
     k
 }
 
 // The same, and what is left of their last byte cleared: how many bits they are.
-pub fn collect(q: &[u8], edged: &[u16], r: RecordIndex, out: &mut [u8]) -> usize
-    requires r_bound { (r.0 ≤ 4 * length q.now) × (r.0 ≤ 4 * max_edges) × (length (those has_edge (records_to q.now r.0)) < 4 * length out.old) }
-    requires edged_lent { EdgedLent edged.now }
+pub fn collect(q: &[u8], edged: Option<EdgedTable<'_>>, r: RecordIndex, out: &mut [u8]) -> usize
+    requires { (r.0 ≤ 4 * length q.now) × (r.0 ≤ 4 * max_edges) × (length (those has_edge (records_to q.now r.0)) < 4 * length out.old) }
     ensures { Packed (record_bits (those has_edge (records_to q.now r.0))) out.old out.new result × (result ≤ 2 * r.0) }
 {
     let k = compact(q, edged, r, out);
@@ -385,31 +358,23 @@ pub struct Remainder {
     pub flagged: usize,
 }
 
-// The edges of the difference of two sets of m bits: the merge, restricted. The members' flags stay in the queue.
+// The edges of the difference of two sets of one width: the merge, restricted. The members' flags stay in the queue.
 pub fn subtract(
-    m: usize,
-    a: &[u8],
-    ba: usize,
-    b: &[u8],
-    bb: usize,
-    spreads: &[u8],
-    parts: &[u32],
-    runs: &[u16],
-    edged: &[u16],
+    a: EdgeBytes<'_>,
+    b: EdgeBytes<'_>,
+    tables: Option<Tables<'_>>,
+    edged: Option<EdgedTable<'_>>,
     q: &mut [u8],
     out: &mut [u8],
 ) -> Remainder
-    requires holds { Holds m ba a.now × (ba / 2 + overread ≤ 4 * length a.now) }
-    requires holds_2 { Holds m bb b.now × (bb / 2 + overread ≤ 4 * length b.now) }
-    requires tables_lent { TablesLent spreads.now parts.now runs.now }
-    requires edged_lent { EdgedLent edged.now }
-    requires queue_room { QueueRoom ba bb q.old × (ba < 8 * length out.old) }
-    ensures { Subtracts (entry_held m ba a.now) (entry_held m bb b.now) q.old out.old q.new out.new result.edges result.flags.0 result.flagged }
+    requires one_width { a.width ≡ b.width }
+    requires queue_room { QueueRoom a.bits b.bits q.old × (a.bits < 8 * length out.old) }
+    ensures { Subtracts (entry_held a.entry.width a.entry.bits a.entry.bytes.now) (entry_held b.entry.width b.entry.bits b.entry.bytes.now) q.old out.old q.new out.new result.edges result.flags.0 result.flagged }
 {
-    let u = merge::merge(m, a, ba, b, bb, spreads, parts, runs, q);
+    let u = merge::merge(a, b, tables, q);
     let r = RecordIndex(u.edges / 2);
     let n = u.members;
-    mark(spreads, parts, q, r, n, FIRST_ONLY);
+    mark(tables, q, r, n, Members::FirstOnly);
     let edges = collect(q, edged, r, out);
     Remainder {
         edges,
