@@ -1,12 +1,11 @@
 -- From two checks to a pair, and from the edges of a join to the call.
 use mathlib.Core.Path.{◌≡◌, refl, sym, ap, ap₂, ◌∙◌, subst}
-use Prim.Native.Nat.{ℕ, ◌+◌, ◌*◌, ◌-◌, ◌/◌, ◌≤◌, ◌<◌}
-use mathlib.Core.Bool.{Bool, true, false, not, cond}
+use Prim.Native.Nat.{ℕ, ◌+◌, ◌*◌, ◌/◌, ◌≤◌, ◌<◌}
+use mathlib.Core.Bool.{Bool, true, false, not}
 use mathlib.Core.List.{[], ◌∷◌}
 use native.Mathlib.Omega.{arith}
 use lib.ListN.{length, replicate, length-replicate, take, drop, length-drop}
 use lib.Seq.{length-take-le}
-use Rattle.loes.proofs.Lists.{rest_is}
 use lib.Dec.{eqb}
 use Rattle.loes.specs.Limits.{max_edges}
 use Rattle.loes.specs.Bytes.{Bytes, started, pack_bits, bits_in}
@@ -25,7 +24,7 @@ use Rattle.loes.proofs.Reading.{bits_cut, along_sized}
 use Rattle.loes.proofs.Writes.{writes_refused, writes_on}
 use Rattle.loes.proofs.Bits.{length_bits_in}
 use Rattle.encoding.specs.Opened.{Opens}
-use Rattle.encoding.proofs.Opened.{opens_room, opens_valid, opens_held, opens_holds}
+use Rattle.encoding.proofs.Opened.{opens_room}
 use Rattle.encoding.specs.declared.Encoding.{Encoding}
 use Rattle.encoding.specs.declared.opening.Opened.{Opened}
 use Rattle.records.specs.Records.{Packed}
@@ -158,12 +157,16 @@ pub opens_over : (l : Bytes) (e : Encoding) → Opens l e → e.bits / 2 + overr
 unfolding start5 start6 started
 opens_over l e p = rw (length-drop e.edges l) (omega (arith, (opens_room l e p).sub_blocks, p.edges, p.sub_blocks, p.bits))
 
+-- of so many bytes
+pub opened_within : (o : Opened) (a : Bytes) (x : ℕ) → o.bytes.now ≡ a → x ≡ o.encoding.bits → x ≤ edges_within (length a)
+opened_within o a x h e = rw (← h, e) (let i = opens_short o.bytes.now o.encoding o.opens in let j = (opens_room o.bytes.now o.encoding o.opens).few in omega arith)
+
 -- the rooms, cleared, serve what two encodings of these lengths have
-pub rooms_serve : {a b : Bytes} (queue edges : ℕ) (e f : Encoding) → Opens a e → Opens b f → RoomFor (length a) (length b) queue edges
-    → QueueRoom e.bits f.bits (replicate queue 0) × (e.bits < 8 * length {A = ℕ} (replicate edges 0))
-rooms_serve {a} {b} queue edges e f p q r =
-    let i : e.bits ≤ edges_within (length a) = omega (arith, opens_short a e p, (opens_room a e p).few) in
-    let j : f.bits ≤ edges_within (length b) = omega (arith, opens_short b f q, (opens_room b f q).few) in
+pub rooms_serve : (queue edges : ℕ) (p : Pair) (a b : Bytes) (x y : ℕ) → p.first.bytes.now ≡ a → p.second.bytes.now ≡ b → x ≡ p.first.encoding.bits → y ≡ p.second.encoding.bits
+    → RoomFor (length a) (length b) queue edges → QueueRoom x y (replicate queue 0) × (x < 8 * length {A = ℕ} (replicate edges 0))
+rooms_serve queue edges p a b x y ha hb hx hy r =
+    let i = opened_within p.first a x ha hx in
+    let j = opened_within p.second b y hb hy in
     let long : (n : ℕ) → length {A = ℕ} (replicate n 0) ≡ n = λ n. length-replicate n 0 in
     (record { queue = omega (arith, i, j, long queue, r.flags); small = omega (arith, long queue, r.few_flags) }, omega (arith, i, long edges, r.first))
 
@@ -193,12 +196,16 @@ made kind {m} {n} {b} {c} {k} {l} {r} {o} {p} h g w d =
     subst (λ (j : ℕ). Joined j k p × (entry_held j k p ≡ x)) wide (join_joined x positive sized o p k d (omega (arith, wide, h.narrow)), join_held x positive sized o p k d)
 
 -- ---- The whole call on two encodings of one width
-pub joined_call : (op : Entry → Entry → Entry) (p : Pair) (out : Bytes) (x : Entry) → x ≡ op (entry_in p.first.bytes.now) (entry_in p.second.bytes.now)
-    → (writes [] (x ∷ []) (out ∷ [])).outcome ≡ join_call op p.first.bytes.now p.second.bytes.now out
-joined_call op p out x h =
-    let a = entry_in p.first.bytes.now in
-    let b = entry_in p.second.bytes.now in
-    let w : a.width ≡ b.width = sym p.first.opens.width ∙ p.one_width ∙ p.second.opens.width in
+pub joined_call : (kind asked : Join) (p : Pair) (a b out : Bytes) (x d e : Entry) → kind ≡ asked → p.first.bytes.now ≡ a → p.second.bytes.now ≡ b → d ≡ entry_in p.first.bytes.now
+    → e ≡ entry_in p.second.bytes.now → x ≡ join_of asked d e → (writes [] (x ∷ []) (out ∷ [])).outcome ≡ join_call (join_of kind) a b out
+joined_call kind asked p a b out x d e hk ha hb hd he h =
+    let w : d.width ≡ e.width = rw (hd, he) (sym p.first.opens.width ∙ p.one_width ∙ p.second.opens.width) in
+    let ra : read a ≡ opened (entry_in a) = rw (← ha) p.first.opens.reads in
+    let rb : read b ≡ opened (entry_in b) = rw (← hb) p.second.opens.reads in
+    let da : d ≡ entry_in a = hd ∙ ap entry_in ha in
+    let eb : e ≡ entry_in b = he ∙ ap entry_in hb in
     ap (λ y. (writes [] (y ∷ []) (out ∷ [])).outcome) h
-    ∙ ap (λ y. y.outcome) (sym (writes_on (join_tests a b) (op a b ∷ []) (out ∷ []) (widths_same a b w)))
-    ∙ sym (call_opened op p.first.bytes.now p.second.bytes.now out p.first.opens.reads p.second.opens.reads)
+    ∙ ap (λ y. y.outcome) (sym (writes_on (join_tests d e) (join_of asked d e ∷ []) (out ∷ []) (widths_same d e w)))
+    ∙ ap₂ (λ y z. (writes (join_tests y z) (join_of asked y z ∷ []) (out ∷ [])).outcome) da eb
+    ∙ sym (call_opened (join_of asked) a b out ra rb)
+    ∙ ap (λ k. join_call (join_of k) a b out) (sym hk)

@@ -82,12 +82,7 @@ pub fn merged(a: EdgeBytes<'_>, b: EdgeBytes<'_>, q: &mut [u8]) -> Sizes
 }
 
 // The edges of the difference, with tables where they pay; the flags of the union's members stay in the queue.
-pub fn subtracted(
-    a: EdgeBytes<'_>,
-    b: EdgeBytes<'_>,
-    q: &mut [u8],
-    edges: &mut [u8],
-) -> Remainder
+pub fn subtracted(a: EdgeBytes<'_>, b: EdgeBytes<'_>, q: &mut [u8], edges: &mut [u8]) -> Remainder
     requires one_width { a.width ≡ b.width }
     requires queue_room { QueueRoom a.bits b.bits q.old × (a.bits < 8 * length edges.old) }
     ensures { Subtracts (entry_held a.entry.width a.entry.bits a.entry.bytes.now) (entry_held b.entry.width b.entry.bits b.entry.bytes.now) q.old edges.old q.new edges.new result.edges result.flags.0 result.flagged }
