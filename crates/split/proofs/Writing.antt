@@ -1,11 +1,11 @@
 -- From the edges of three parts to the call, and the rooms.
 use mathlib.Core.Path.{◌≡◌, sym, ap, ap₂, ◌∙◌}
-use Prim.Native.Nat.{ℕ, ◌+◌, ◌*◌, ◌/◌, ◌≤◌}
+use Prim.Native.Nat.{ℕ, ◌+◌, ◌/◌, ◌≤◌}
 use mathlib.Core.Bool.{Bool, true, false, ◌||◌, or-false}
 use mathlib.Core.List.{List, [], ◌∷◌, map}
 use mathlib.Core.Option.{some}
 use native.Mathlib.Omega.{arith}
-use lib.ListN.{length}
+use lib.ListN.{length, replicate, length-replicate}
 use lib.Dec.{ltb}
 use Rattle.loes.specs.Limits.{max_edges}
 use Rattle.loes.specs.Bytes.{Bytes, front}
@@ -17,21 +17,29 @@ use Rattle.loes.specs.Calls.{after_reading, reading, split_call}
 use Rattle.loes.specs.Held.{entry_held}
 use Rattle.loes.specs.Refusals.{short_buffer}
 use Rattle.loes.specs.Model.{refused, wrote, writing_all, refusal, fronts, any_short, writes, join_tests, difference_entry, both_entry, split}
-use Rattle.loes.proofs.Tests.{lt_no}
+use Rattle.loes.proofs.Tests.{lt_no, no_lt, neither}
 use Rattle.loes.proofs.Writes.{writes_refused, writes_on, all_short, all_fit}
 use Rattle.loes.proofs.Histories.{difference_valid, both_valid}
 use Rattle.loes.proofs.Splits.{both_fewer, difference_fewer}
 use Rattle.encoding.specs.Opened.{Opens}
 use Rattle.encoding.specs.declared.Encoding.{Encoding}
-use Rattle.encoding.proofs.Opened.{opens_valid}
+use Rattle.encoding.proofs.Opened.{opens_valid, opens_room}
 use Rattle.build.proofs.Fields.{held_length}
 use Rattle.records.specs.Records.{Packed}
-use Rattle.join.specs.Joining.{pair_refusal, Joined, queue_for, large}
+use Rattle.join.specs.Joining.{pair_refusal, Joined, edges_within}
 use Rattle.join.specs.declared.Join.TheVariants as join
-use Rattle.join.proofs.Joins.{widths_same, pair_refused, join_held, join_joined, joined_bits, first, second, first_held, second_held}
+use Rattle.join.proofs.Joins.{opens_short, widths_same, pair_refused, join_held, join_joined, joined_bits, first, second, first_held, second_held}
 use Rattle.divide.specs.declared.Three.{Three}
-use Rattle.divide.specs.Division.{MarksFit, Divided}
-use Rattle.split.specs.Splitting.{marks_for, SplitRooms}
+use Rattle.divide.specs.Division.{MarksFit, Divided, DivideRoom}
+use Rattle.split.specs.Splitting.{SplitRoom}
+
+-- three buffers of which none is too short
+pub three_rooms : (m : ℕ) (k : Three) (xs ys zs : Bytes) → (ltb (length xs) (end_of m k.both) || (ltb (length ys) (end_of m k.only_first) || ltb (length zs) (end_of m k.only_second))) ≡ false
+    → (end_of m k.both ≤ length xs) × ((end_of m k.only_first ≤ length ys) × (end_of m k.only_second ≤ length zs))
+three_rooms m k xs ys zs g =
+    let r = neither (ltb (length xs) (end_of m k.both)) (ltb (length ys) (end_of m k.only_first) || ltb (length zs) (end_of m k.only_second)) g in
+    let s = neither (ltb (length ys) (end_of m k.only_first)) (ltb (length zs) (end_of m k.only_second)) r.1 in
+    (no_lt (length xs) (end_of m k.both) r.0, (no_lt (length ys) (end_of m k.only_first) s.0, no_lt (length zs) (end_of m k.only_second) s.1))
 
 -- ---- Three entries whose edges are not too many
 module _ (m i j h : ℕ) (x y z : Bytes) (p : Joined m i x) (q : Joined m j y) (r : Joined m h z) (fi : i ≤ max_edges) (fj : j ≤ max_edges) (fh : h ≤ max_edges) (xs ys zs : Bytes) where
@@ -131,11 +139,12 @@ pub split_opens : (a b x y z : Bytes) → read a ≡ opened (entry_in a) → rea
 unfolding split_call reading after_reading
 split_opens a b x y z h g = rw (h, g)
 
--- ---- The rooms of n bytes
-pub rooms_for : (n a b : ℕ) (q x y z : Bytes) → n ≤ large → ((k : ℕ) → k ≤ 8 * a → k ≤ max_edges → k ≤ 8 * n) → ((k : ℕ) → k ≤ 8 * b → k ≤ max_edges → k ≤ 8 * n)
-    → length q ≡ queue_for n → length x ≡ marks_for n → length y ≡ marks_for n → length z ≡ marks_for n → SplitRooms a b q x y z
-rooms_for n a b q x y z k f g s t u w ba bb i j p r =
-    let ha = f ba i j in
-    let hb = g bb p r in
-    let fits : (l : Bytes) → length l ≡ marks_for n → MarksFit ((ba + bb) / 2) l = λ l e. record { room = omega arith; small = omega arith } in
-    record { queue = record { queue = omega arith; small = omega arith }; both = fits x t; only_first = fits y u; only_second = fits z w }
+-- ---- The rooms, cleared, serve what two encodings of these lengths have
+pub rooms_serve : {a b : Bytes} (queue marks : ℕ) (e f : Encoding) → Opens a e → Opens b f → SplitRoom (length a) (length b) queue marks
+    → DivideRoom e.bits f.bits (replicate queue 0) (replicate marks 0) (replicate marks 0) (replicate marks 0)
+rooms_serve {a} {b} queue marks e f p o r =
+    let i : e.bits ≤ edges_within (length a) = omega (arith, opens_short a e p, (opens_room a e p).few) in
+    let j : f.bits ≤ edges_within (length b) = omega (arith, opens_short b f o, (opens_room b f o).few) in
+    let long : (n : ℕ) → length {A = ℕ} (replicate n 0) ≡ n = λ n. length-replicate n 0 in
+    let fits : MarksFit ((e.bits + f.bits) / 2) (replicate marks 0) = record { room = omega (arith, i, j, long marks, r.records); small = omega (arith, long marks, r.few_marks) } in
+    record { queue = record { queue = omega (arith, i, j, long queue, r.flags); small = omega (arith, long queue, r.few_flags) }; both = fits; only_first = fits; only_second = fits }

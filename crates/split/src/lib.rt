@@ -11,8 +11,8 @@ ghost use Rattle.bits.specs.Tables.{Tallies};
 ghost use Rattle.encoding.specs.Opened.{Opens};
 ghost use Rattle.records.specs.Numbers.{overread};
 ghost use Rattle.divide.specs.Division.{Divided, DivideRoom};
-ghost use Rattle.join.specs.Joining.{Joined, tiny, small, middle, large};
-ghost use Rattle.split.specs.Splitting.{marks_for, SplitRooms, split_outcome};
+ghost use Rattle.join.specs.Joining.{Joined};
+ghost use Rattle.split.specs.Splitting.{SplitRoom, split_outcome};
 
 use divide::Three;
 use encoding::Encoding;
@@ -138,42 +138,6 @@ fn split_opened(
     write_three(e.width, k, q, x, y, t, both, only_first, only_second)
 }
 
-// Splits with the counting table and rooms lent: a queue, and for the marks of the three parts.
-fn split_with(
-    a: &[u8],
-    b: &[u8],
-    t: &[u8],
-    q: &mut [u8],
-    x: &mut [u8],
-    y: &mut [u8],
-    z: &mut [u8],
-    both: &mut [u8],
-    only_first: &mut [u8],
-    only_second: &mut [u8],
-) -> AllWritten
-    requires { SplitRooms (length a.now) (length b.now) q.old x.old y.old z.old × Tallies t.now }
-    ensures { split_outcome result both.new only_first.new only_second.new ≡ split_call a.now b.now both.old only_first.old only_second.old }
-{
-    let pair = join::open_both(a, b, t);
-    match pair {
-        Pair::Refused(k) => AllWritten::Refused(k),
-        Pair::Opened(e, f) => split_opened(
-            e,
-            f,
-            a,
-            b,
-            t,
-            q,
-            x,
-            y,
-            z,
-            both,
-            only_first,
-            only_second,
-        ),
-    }
-}
-
 // ---- Rooms: the queue of a join, and for marks of a union's edges, which are no more than those of both.
 const TINY_MARKS: usize = 2 * join::TINY + join::SPARE;
 
@@ -183,147 +147,41 @@ const MIDDLE_MARKS: usize = 2 * join::MIDDLE + join::SPARE;
 
 const LARGE_MARKS: usize = 2 * join::LARGE + join::SPARE;
 
-fn tiny_marks() -> [u8; TINY_MARKS]
-    ensures { length result ≡ marks_for tiny }
-{
-    [0; TINY_MARKS]
-}
-
-fn small_marks() -> [u8; SMALL_MARKS]
-    ensures { length result ≡ marks_for small }
-{
-    [0; SMALL_MARKS]
-}
-
-fn middle_marks() -> [u8; MIDDLE_MARKS]
-    ensures { length result ≡ marks_for middle }
-{
-    [0; MIDDLE_MARKS]
-}
-
-fn large_marks() -> [u8; LARGE_MARKS]
-    ensures { length result ≡ marks_for large }
-{
-    [0; LARGE_MARKS]
-}
-
-// For two tiny encodings. Each of these four is called at two places, for the reason that crate join gives at its own.
-fn split_tiny(
+// Splits in rooms of its own, of these sizes. It stays a function when compiled, one for each of the sizes: a small split does not touch the stack of a large one.
+#[inline(never)]
+fn split_in<const QUEUE: usize, const MARKS: usize>(
     a: &[u8],
     b: &[u8],
     both: &mut [u8],
     only_first: &mut [u8],
     only_second: &mut [u8],
 ) -> AllWritten
-    requires { (length a.now ≤ tiny) × (length b.now ≤ tiny) }
+    requires { SplitRoom (length a.now) (length b.now) QUEUE MARKS }
     ensures { split_outcome result both.new only_first.new only_second.new ≡ split_call a.now b.now both.old only_first.old only_second.old }
 {
     let t = bits::tallies();
-    let mut q = join::tiny_queue();
-    let mut x = tiny_marks();
-    let mut y = tiny_marks();
-    let mut z = tiny_marks();
-    split_with(
-        a,
-        b,
-        &t,
-        &mut q,
-        &mut x,
-        &mut y,
-        &mut z,
-        both,
-        only_first,
-        only_second,
-    )
-}
-
-// For two small ones.
-fn split_small(
-    a: &[u8],
-    b: &[u8],
-    both: &mut [u8],
-    only_first: &mut [u8],
-    only_second: &mut [u8],
-) -> AllWritten
-    requires { (length a.now ≤ small) × (length b.now ≤ small) }
-    ensures { split_outcome result both.new only_first.new only_second.new ≡ split_call a.now b.now both.old only_first.old only_second.old }
-{
-    let t = bits::tallies();
-    let mut q = join::small_queue();
-    let mut x = small_marks();
-    let mut y = small_marks();
-    let mut z = small_marks();
-    split_with(
-        a,
-        b,
-        &t,
-        &mut q,
-        &mut x,
-        &mut y,
-        &mut z,
-        both,
-        only_first,
-        only_second,
-    )
-}
-
-// For two of middle size.
-fn split_middle(
-    a: &[u8],
-    b: &[u8],
-    both: &mut [u8],
-    only_first: &mut [u8],
-    only_second: &mut [u8],
-) -> AllWritten
-    requires { (length a.now ≤ middle) × (length b.now ≤ middle) }
-    ensures { split_outcome result both.new only_first.new only_second.new ≡ split_call a.now b.now both.old only_first.old only_second.old }
-{
-    let t = bits::tallies();
-    let mut q = join::middle_queue();
-    let mut x = middle_marks();
-    let mut y = middle_marks();
-    let mut z = middle_marks();
-    split_with(
-        a,
-        b,
-        &t,
-        &mut q,
-        &mut x,
-        &mut y,
-        &mut z,
-        both,
-        only_first,
-        only_second,
-    )
-}
-
-// For any two.
-fn split_large(
-    a: &[u8],
-    b: &[u8],
-    both: &mut [u8],
-    only_first: &mut [u8],
-    only_second: &mut [u8],
-) -> AllWritten
-    ensures { split_outcome result both.new only_first.new only_second.new ≡ split_call a.now b.now both.old only_first.old only_second.old }
-{
-    let t = bits::tallies();
-    let mut q = join::large_queue();
-    let mut x = large_marks();
-    let mut y = large_marks();
-    let mut z = large_marks();
-    split_with(
-        a,
-        b,
-        &t,
-        &mut q,
-        &mut x,
-        &mut y,
-        &mut z,
-        both,
-        only_first,
-        only_second,
-    )
+    let mut q = [0; QUEUE];
+    let mut x = [0; MARKS];
+    let mut y = [0; MARKS];
+    let mut z = [0; MARKS];
+    let pair = join::open_both(a, b, &t);
+    match pair {
+        Pair::Refused(k) => AllWritten::Refused(k),
+        Pair::Opened(e, f) => split_opened(
+            e,
+            f,
+            a,
+            b,
+            &t,
+            &mut q,
+            &mut x,
+            &mut y,
+            &mut z,
+            both,
+            only_first,
+            only_second,
+        ),
+    }
 }
 
 // ---- The call
@@ -337,28 +195,14 @@ pub fn split(
 ) -> AllWritten
     ensures { split_outcome result both.new only_first.new only_second.new ≡ split_call a.now b.now both.old only_first.old only_second.old }
 {
-    if a.len() < b.len() {
-        let n = b.len();
-        if n <= join::TINY {
-            return split_tiny(a, b, both, only_first, only_second);
-        }
-        if n <= join::SMALL {
-            return split_small(a, b, both, only_first, only_second);
-        }
-        if n <= join::MIDDLE {
-            return split_middle(a, b, both, only_first, only_second);
-        }
-        return split_large(a, b, both, only_first, only_second);
-    }
-    let n = a.len();
+    let n = a.len().max(b.len());
     if n <= join::TINY {
-        return split_tiny(a, b, both, only_first, only_second);
+        split_in::<{ join::TINY_QUEUE }, TINY_MARKS>(a, b, both, only_first, only_second)
+    } else if n <= join::SMALL {
+        split_in::<{ join::SMALL_QUEUE }, SMALL_MARKS>(a, b, both, only_first, only_second)
+    } else if n <= join::MIDDLE {
+        split_in::<{ join::MIDDLE_QUEUE }, MIDDLE_MARKS>(a, b, both, only_first, only_second)
+    } else {
+        split_in::<{ join::LARGE_QUEUE }, LARGE_MARKS>(a, b, both, only_first, only_second)
     }
-    if n <= join::SMALL {
-        return split_small(a, b, both, only_first, only_second);
-    }
-    if n <= join::MIDDLE {
-        return split_middle(a, b, both, only_first, only_second);
-    }
-    split_large(a, b, both, only_first, only_second)
 }

@@ -1,6 +1,6 @@
 -- From two opened encodings of one width, and what merging or subtracting left, to the call.
 use mathlib.Core.Path.{◌≡◌, refl, sym, ap, subst, ◌∙◌}
-use Prim.Native.Nat.{ℕ, ◌*◌, ◌/◌, ◌≤◌}
+use Prim.Native.Nat.{ℕ, ◌/◌, ◌≤◌}
 use mathlib.Core.Bool.{Bool, true, false, false≢true}
 use mathlib.Core.List.{[], ◌∷◌, ◌++◌}
 use mathlib.Core.Option.{some}
@@ -24,7 +24,7 @@ use Rattle.merge.specs.Union.{Merged}
 use Rattle.restrict.specs.Restriction.{Subtracts}
 use Rattle.join.specs.declared.Join.{Join}
 use Rattle.join.specs.declared.Join.TheVariants as join
-use Rattle.join.specs.Joining.{pair_refusal, Joined, large, queue_for, edges_for, Rooms}
+use Rattle.join.specs.Joining.{pair_refusal, Joined}
 use Rattle.join.proofs.Joins.{widths_same, pair_refused, first, second, first_held, second_held, same_width, join_sized, joined, held_asked}
 use Rattle.weights.specs.Weights.{Weights, outputs, leaving, list_test, weight_of, listed, sum_of, sum_test, writes_with, union_weighted, difference_weighted, union_weighted_call, difference_weighted_call}
 use Rattle.weights.specs.Answers.{weighted_call}
@@ -146,14 +146,3 @@ module _ (a b : Bytes) (e f : Encoding) (p : Opens a e) (q : Opens b f) (wa wb :
   pub difference_opened : difference_weighted (entry_in a) wa (entry_in b) out ws ≡ difference_weighted_call a wa b out ws
   unfolding difference_weighted_call reading after_reading
   difference_opened = rw (p.reads, q.reads)
-
--- ---- Rooms: a queue and room for edges of n bytes are enough for two encodings of at most 8 n edges
-pub rooms_for : (n x y : ℕ) (q l : Bytes) → n ≤ large → ((b : ℕ) → b ≤ 8 * x → b ≤ max_edges → b ≤ 8 * n) → ((b : ℕ) → b ≤ 8 * y → b ≤ max_edges → b ≤ 8 * n)
-    → length q ≡ queue_for n → length l ≡ edges_for n → Rooms x y q l
-rooms_for n x y q l most first second queue edges =
-    record {
-      enough = λ ba bb i j h k.
-          (record { queue = omega (arith, queue, first ba i j, second bb h k); small = omega (arith, queue, most) }, omega (arith, edges, first ba i j));
-      queue = omega (arith, queue, most);
-      edges = omega (arith, edges, most);
-    }

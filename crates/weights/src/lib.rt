@@ -1,7 +1,7 @@
 // Weights beside an encoding: a list of signed numbers of 32 bits, entry i for the member at index i.
 #![tactic(auto)]
 
-ghost use Rattle.std.specs.Prelude.{ℕ, ◌+◌, ◌*◌, ◌/◌, ◌≤◌, ◌<◌, ◌≡◌, [], ◌∷◌, true, false, ◌&&◌, ◌||◌, ◌+ℤ◌, length, get_or, ltb};
+ghost use Rattle.std.specs.Prelude.{ℕ, ℤ, ◌+◌, ◌*◌, ◌/◌, ◌≤◌, ◌<◌, ◌≡◌, [], ◌∷◌, true, false, ◌&&◌, ◌||◌, ◌+ℤ◌, length, get_or, ltb, SomeIff};
 ghost use Rattle.loes.specs.Limits.{max_width, max_edges};
 ghost use Rattle.loes.specs.Bytes.{odd, tabulate};
 ghost use Rattle.loes.specs.Entry.{count, edge_count};
@@ -13,7 +13,7 @@ ghost use Rattle.bits.specs.Tables.{Tallies};
 ghost use Rattle.encoding.specs.Opened.{Opens};
 ghost use Rattle.pack.specs.Packing.{Ready};
 ghost use Rattle.merge.specs.Union.{QueueRoom};
-ghost use Rattle.join.specs.Joining.{Joined, tiny, small, middle, Rooms};
+ghost use Rattle.join.specs.Joining.{Joined, RoomFor};
 ghost use Rattle.weights.specs.Weights.{outside, no_weight, writes_with, post as postTo, union_weighted, difference_weighted, pack_weighted_call, post_call, union_weighted_call, difference_weighted_call};
 ghost use Rattle.weights.specs.Answers.{posting_outcome, weighted_outcome, posted_at, weighted_call};
 ghost use Rattle.weights.specs.Lists.{taken, sum_at, over_at, any_below, kept_to, FlagsFit, Flagged, FlagRead};
@@ -28,39 +28,12 @@ use pack::Verdict;
 use query::Lookup;
 use restrict::Remainder;
 
-// ---- Sums, and their range
-// The sum of two weights, at 64 bits.
-fn sum(a: i32, b: i32) -> i64
-    ensures { result ≡ a +ℤ b }
-{
-    a as i64 + b as i64
-}
-
-// The ends of 32 signed bits.
-const LEAST: i64 = -2147483648;
-
-const GREATEST: i64 = 2147483647;
-
-// Whether a sum leaves 32 signed bits, at either end.
-fn is_outside(s: i64) -> bool
-    ensures { result ≡ outside s }
-{
-    if s < LEAST { true } else { GREATEST < s }
-}
-
-// Either of two.
-fn either(a: bool, b: bool) -> bool
-    ensures { result ≡ (a || b) }
-{
-    if a { true } else { b }
-}
-
 // ---- Lists of two sets, read in step with the flags of their union's members. A weight is read before its flag says whether to take it, so that no load waits for its own flag and the choice takes no jump.
 // Weight i of a list, or 0 where there is none.
 fn weight_at(ws: &[i32], i: usize) -> i32
     ensures { result ≡ get_or ws.now i no_weight }
 {
-    if i < ws.len() { ws[i] } else { 0 }
+    ws.get(i).copied().unwrap_or(0)
 }
 
 // The same if f is odd, else 0.
@@ -71,13 +44,14 @@ fn weight_if(f: u8, ws: &[i32], i: usize) -> i32
     if f % 2 == 1 { x } else { 0 }
 }
 
-// Both weights of a member with flag f, added; the sum leaves 32 bits only if both sets have it.
-fn sum_at(f: u8, wa: &[i32], ia: usize, wb: &[i32], ib: usize) -> i64
-    ensures { (result ≡ taken (odd f) wa.now ia +ℤ taken (odd (f / 2)) wb.now ib) × ((odd f && odd (f / 2)) ≡ false → outside result ≡ false) }
+// Both weights of a member with flag f, added, unless the sum leaves 32 signed bits, as it can only if both sets have it.
+fn sum_at(f: u8, wa: &[i32], ia: usize, wb: &[i32], ib: usize) -> Option<i32>
+    ensures fits { let sum : ℤ = taken (odd f) wa.now ia +ℤ taken (odd (f / 2)) wb.now ib in SomeIff result (outside sum ≡ false) sum }
+    ensures alone { (odd f && odd (f / 2)) ≡ false → outside (taken (odd f) wa.now ia +ℤ taken (odd (f / 2)) wb.now ib) ≡ false }
 {
     let x = weight_if(f, wa, ia);
     let y = weight_if(f / 2, wb, ib);
-    sum(x, y)
+    x.checked_add(y)
 }
 
 // The flag of member i, of those from place r on.
@@ -89,7 +63,7 @@ fn flag_at(q: &[u8], r: RecordIndex, i: usize) -> u8
     records::record_at(q, RecordIndex(at))
 }
 
-// Whether some member of both has a sum that leaves 32 signed bits.
+// Whether some member of both has a sum that leaves 32 signed bits. No member ends the loop, so that it takes no jump.
 fn any_outside(q: &[u8], r: RecordIndex, n: usize, wa: &[i32], wb: &[i32]) -> bool
     requires { FlagsFit q.now r.0 n }
     ensures { result ≡ any_below (over_at q.now r.0 wa.now wb.now) n }
@@ -97,14 +71,11 @@ fn any_outside(q: &[u8], r: RecordIndex, n: usize, wa: &[i32], wb: &[i32]) -> bo
     let mut ia: usize = 0;
     let mut ib: usize = 0;
     let mut over = false;
-    let mut i = 0;
-    while i < n {
+    for i in 0..n {
         let f = flag_at(q, r, i);
-        let s = sum_at(f, wa, ia, wb, ib);
-        over = either(over, is_outside(s));
-        ia += (f % 2) as usize;
-        ib += (f / 2) as usize;
-        i += 1;
+        over |= sum_at(f, wa, ia, wb, ib).is_none();
+        ia += usize::from(f % 2);
+        ib += usize::from(f / 2);
     }
     over
 }
@@ -116,14 +87,11 @@ fn write_sums(q: &[u8], r: RecordIndex, wa: &[i32], wb: &[i32], list: &mut [i32]
 {
     let mut ia: usize = 0;
     let mut ib: usize = 0;
-    let mut i = 0;
-    while i < list.len() {
+    for i in 0..list.len() {
         let f = flag_at(q, r, i);
-        let s = sum_at(f, wa, ia, wb, ib);
-        list[i] = s as i32;
-        ia += (f % 2) as usize;
-        ib += (f / 2) as usize;
-        i += 1;
+        list[i] = sum_at(f, wa, ia, wb, ib).unwrap();
+        ia += usize::from(f % 2);
+        ib += usize::from(f / 2);
     }
 }
 
@@ -134,27 +102,14 @@ fn write_kept(q: &[u8], r: RecordIndex, n: usize, wa: &[i32], list: &mut [i32])
 {
     let mut ia: usize = 0;
     let mut k: usize = 0;
-    let mut i = 0;
-    while i < n {
+    for i in 0..n {
         let f = flag_at(q, r, i);
         let x = weight_at(wa, ia);
         if k < list.len() {
             list[k] = x;
         }
-        ia += (f % 2) as usize;
-        k += (f == restrict::FIRST_ONLY) as usize;
-        i += 1;
-    }
-}
-
-// Writes zeros.
-fn clear(list: &mut [i32])
-    ensures { list.new ≡ tabulate (λ (i : ℕ). no_weight) (length list.old) }
-{
-    let mut i = 0;
-    while i < list.len() {
-        list[i] = 0;
-        i += 1;
+        ia += usize::from(f % 2);
+        k += usize::from(f == restrict::FIRST_ONLY);
     }
 }
 
@@ -172,13 +127,13 @@ fn post_at(list: &mut [i32], k: usize, amount: i32) -> Posting
     requires { k < length list.old }
     ensures { posting_outcome result list.new ≡ posted_at list.old k amount }
 {
-    let old = list[k];
-    let s = sum(old, amount);
-    if is_outside(s) {
-        return Posting::Refused(refusal::OVERFLOW);
+    match list[k].checked_add(amount) {
+        None => Posting::Refused(refusal::OVERFLOW),
+        Some(sum) => {
+            list[k] = sum;
+            Posting::Posted
+        }
     }
-    list[k] = s as i32;
-    Posting::Posted
 }
 
 // Behind the check: 16, then 8, then 17.
@@ -240,7 +195,7 @@ fn write_packed(
     match packed {
         Written::Refused(k) => Written::Refused(k),
         Written::Length(size) => {
-            clear(&mut list[..n]);
+            list[..n].fill(0);
             Written::Length(size)
         }
     }
@@ -264,7 +219,7 @@ fn either_short(m: usize, b: usize, n: usize, room: usize, places: usize) -> boo
     requires { (m ≤ max_width) × (b ≤ max_edges) }
     ensures { result ≡ (ltb room (end_of m b) || ltb places n) }
 {
-    either(build::too_short(m, b, room), places < n)
+    build::too_short(m, b, room) || places < n
 }
 
 // The union's encoding and its list, from what merging left in the queue: 5, 14, 17.
@@ -381,88 +336,39 @@ fn subtract(
     write_difference(e.width, d, t, q, edges, wa, out, list)
 }
 
-// Joins with the counting table, a queue and room for the edges of a difference lent.
-fn join_with(
+// Joins in rooms of its own, of these sizes. It stays a function when compiled, one for each of the sizes, as that of crate join does.
+#[inline(never)]
+fn join_in<const QUEUE: usize, const EDGES: usize>(
     kind: Join,
     a: &[u8],
     wa: &[i32],
     b: &[u8],
     wb: &[i32],
-    t: &[u8],
-    q: &mut [u8],
-    edges: &mut [u8],
     out: &mut [u8],
     list: &mut [i32],
 ) -> Written
-    requires { Rooms (length a.now) (length b.now) q.old edges.old × Tallies t.now }
+    requires { RoomFor (length a.now) (length b.now) QUEUE EDGES }
     ensures { weighted_outcome result out.new list.new ≡ weighted_call kind a.now wa.now b.now wb.now out.old list.old }
 {
-    let pair = join::open_both(a, b, t);
+    let t = bits::tallies();
+    let pair = join::open_both(a, b, &t);
     match pair {
         Pair::Refused(k) => Written::Refused(k),
-        Pair::Opened(e, f) => match kind {
-            Join::Union => unite(e, f, a, wa, b, wb, t, q, out, list),
-            Join::Difference => subtract(e, f, a, wa, b, t, q, edges, out, list),
-        },
+        Pair::Opened(e, f) => {
+            let mut q = [0; QUEUE];
+            match kind {
+                Join::Union => unite(e, f, a, wa, b, wb, &t, &mut q, out, list),
+                Join::Difference => {
+                    let mut edges = [0; EDGES];
+                    subtract(e, f, a, wa, b, &t, &mut q, &mut edges, out, list)
+                }
+            }
+        }
     }
 }
 
-// In the rooms that a join has, by the lengths of both. Each of these four is called at two places, for the reason that crate join gives at its own.
-fn join_tiny(
-    kind: Join,
-    a: &[u8],
-    wa: &[i32],
-    b: &[u8],
-    wb: &[i32],
-    out: &mut [u8],
-    list: &mut [i32],
-) -> Written
-    requires { (length a.now ≤ tiny) × (length b.now ≤ tiny) }
-    ensures { weighted_outcome result out.new list.new ≡ weighted_call kind a.now wa.now b.now wb.now out.old list.old }
-{
-    let t = bits::tallies();
-    let mut q = join::tiny_queue();
-    let mut edges = join::tiny_edges();
-    join_with(kind, a, wa, b, wb, &t, &mut q, &mut edges, out, list)
-}
-
-fn join_small(
-    kind: Join,
-    a: &[u8],
-    wa: &[i32],
-    b: &[u8],
-    wb: &[i32],
-    out: &mut [u8],
-    list: &mut [i32],
-) -> Written
-    requires { (length a.now ≤ small) × (length b.now ≤ small) }
-    ensures { weighted_outcome result out.new list.new ≡ weighted_call kind a.now wa.now b.now wb.now out.old list.old }
-{
-    let t = bits::tallies();
-    let mut q = join::small_queue();
-    let mut edges = join::small_edges();
-    join_with(kind, a, wa, b, wb, &t, &mut q, &mut edges, out, list)
-}
-
-fn join_middle(
-    kind: Join,
-    a: &[u8],
-    wa: &[i32],
-    b: &[u8],
-    wb: &[i32],
-    out: &mut [u8],
-    list: &mut [i32],
-) -> Written
-    requires { (length a.now ≤ middle) × (length b.now ≤ middle) }
-    ensures { weighted_outcome result out.new list.new ≡ weighted_call kind a.now wa.now b.now wb.now out.old list.old }
-{
-    let t = bits::tallies();
-    let mut q = join::middle_queue();
-    let mut edges = join::middle_edges();
-    join_with(kind, a, wa, b, wb, &t, &mut q, &mut edges, out, list)
-}
-
-fn join_large(
+// Joins in the smallest rooms that serve the longer of the two.
+fn join_by_length(
     kind: Join,
     a: &[u8],
     wa: &[i32],
@@ -473,10 +379,16 @@ fn join_large(
 ) -> Written
     ensures { weighted_outcome result out.new list.new ≡ weighted_call kind a.now wa.now b.now wb.now out.old list.old }
 {
-    let t = bits::tallies();
-    let mut q = join::large_queue();
-    let mut edges = join::large_edges();
-    join_with(kind, a, wa, b, wb, &t, &mut q, &mut edges, out, list)
+    let n = a.len().max(b.len());
+    if n <= join::TINY {
+        join_in::<{ join::TINY_QUEUE }, { join::TINY_EDGES }>(kind, a, wa, b, wb, out, list)
+    } else if n <= join::SMALL {
+        join_in::<{ join::SMALL_QUEUE }, { join::SMALL_EDGES }>(kind, a, wa, b, wb, out, list)
+    } else if n <= join::MIDDLE {
+        join_in::<{ join::MIDDLE_QUEUE }, { join::MIDDLE_EDGES }>(kind, a, wa, b, wb, out, list)
+    } else {
+        join_in::<{ join::LARGE_QUEUE }, { join::LARGE_EDGES }>(kind, a, wa, b, wb, out, list)
+    }
 }
 
 // The keys in either set, and a list of their weights: a key that both have weighs the sum.
@@ -490,17 +402,7 @@ pub fn union_weighted(
 ) -> Written
     ensures { weighted_outcome result out.new list.new ≡ union_weighted_call a.now wa.now b.now wb.now out.old list.old }
 {
-    let n = join::longer(a.len(), b.len());
-    if n <= join::TINY {
-        return join_tiny(Join::Union, a, wa, b, wb, out, list);
-    }
-    if n <= join::SMALL {
-        return join_small(Join::Union, a, wa, b, wb, out, list);
-    }
-    if n <= join::MIDDLE {
-        return join_middle(Join::Union, a, wa, b, wb, out, list);
-    }
-    join_large(Join::Union, a, wa, b, wb, out, list)
+    join_by_length(Join::Union, a, wa, b, wb, out, list)
 }
 
 // The keys in the first set but not in the second, and what they weigh in the first.
@@ -513,15 +415,5 @@ pub fn difference_weighted(
 ) -> Written
     ensures { weighted_outcome result out.new list.new ≡ difference_weighted_call a.now wa.now b.now out.old list.old }
 {
-    let n = join::longer(a.len(), b.len());
-    if n <= join::TINY {
-        return join_tiny(Join::Difference, a, wa, b, &[], out, list);
-    }
-    if n <= join::SMALL {
-        return join_small(Join::Difference, a, wa, b, &[], out, list);
-    }
-    if n <= join::MIDDLE {
-        return join_middle(Join::Difference, a, wa, b, &[], out, list);
-    }
-    join_large(Join::Difference, a, wa, b, &[], out, list)
+    join_by_length(Join::Difference, a, wa, b, &[], out, list)
 }
