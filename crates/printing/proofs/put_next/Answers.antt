@@ -43,8 +43,8 @@ slice_bounds-put_member-end c =
     let h : k ≤ length key = omega (arith, fits _ _ c.args.o.opens _ c.bytes_for-k.ensures.0) in
     sym (length-take-le k key h)
 
-pub put_member-length-requires : goal.put_member-length-requires
-put_member-length-requires c =
+pub put_member-requires : goal.put_member-requires
+put_member-requires c =
     let key = c.moved-stepped.new.key in
     let k = c.bytes_for-k.result in
     let f : k ≤ 32 = fits _ _ c.args.o.opens _ c.bytes_for-k.ensures.0 in
@@ -63,6 +63,6 @@ returns c =
     ap (λ n. take n x.new.key) (bytes _ _ o _ c.bytes_for-k.ensures.0) ∙ next_key (entry_in l) v c.args.p c.requires.0 t _ refl x.result x.new.key x.ensures in
     record {
       index = refl;
-      puts = rw key at c.put_member-length.ensures;
+      puts = rw key at c.put_member.ensures;
       stands = next_stands (entry_in l) v c.args.p c.requires.0 t _ refl x.result x.new.key x.ensures _ refl refl;
     }
