@@ -59,7 +59,7 @@ fn test_at(d: RecordIndex, r: RecordIndex, members: Members) -> Kept
     if d.0 < r.0 {
         Kept::Edged
     } else {
-        members.kept()
+        Kept::from(members)
     }
 }
 
@@ -67,22 +67,11 @@ fn test_at(d: RecordIndex, r: RecordIndex, members: Members) -> Kept
 fn has_mark(r: RecordIndex, i: RecordIndex, k: usize, c: RecordIndex, l: usize) -> bool
     ensures { result ≡ true → MarkRoom r.0 i.0 k c.0 l }
 {
-    if i.0 % 4 > 0 {
-        return false;
-    }
-    if c.0 < k {
-        return false;
-    }
-    let d = c.0 - k;
-    if d < i.0 {
-        return false;
-    }
-    if d < r.0 {
-        if r.0 < c.0 {
-            return false;
-        }
-    }
-    d / 4 + 3 < l
+    i.0 % 4 == 0
+        && k <= c.0
+        && i.0 <= c.0 - k
+        && (r.0 <= c.0 - k || c.0 <= r.0)
+        && (c.0 - k) / 4 + 3 < l
 }
 
 // How many edges the byte of record i - 1 has, if it can be marked whole.
@@ -134,23 +123,12 @@ pub fn has_singles(q: &[u8], r: RecordIndex, i: RecordIndex, c: RecordIndex) -> 
     requires { (i.0 ≤ r.0) × (r.0 ≤ 4 * length q.now) × (length q.now ≤ max_edges) }
     ensures { result ≡ true → SingleRoom q.now r.0 i.0 c.0 }
 {
-    if i.0 % SINGLES > 0 {
-        return false;
-    }
-    if i.0 < SINGLES {
-        return false;
-    }
-    if r.0 < c.0 {
-        return false;
-    }
-    if c.0 < i.0 + SINGLES {
-        return false;
-    }
-    if c.0 / 4 < q.len() {
-        no_double(records::block(q, (i.0 - SINGLES) / 4))
-    } else {
-        false
-    }
+    i.0 % SINGLES == 0
+        && SINGLES <= i.0
+        && c.0 <= r.0
+        && i.0 + SINGLES <= c.0
+        && c.0 / 4 < q.len()
+        && no_double(records::block(q, (i.0 - SINGLES) / 4))
 }
 
 // Records of one edge in y, less those whose entry in e has none.
