@@ -62,21 +62,17 @@ pub fn unused_set(key: &[u8], t: usize, m: usize) -> bool
     x % (1u8 << (8 * t - m)) != 0
 }
 
-// What a byte weighs that has one behind it, and one that has two.
+// What a byte weighs that has one behind it.
 pub const BYTE: usize = 256;
 
-pub const TWO_BYTES: usize = BYTE * BYTE;
-
-// The number in K bytes at a place, most significant byte first: a load and a turn of its bytes when compiled.
+// The number in K bytes at a place, most significant byte first: behind zeros they are eight, which is one load when compiled.
 pub fn number<const K: usize>(l: &[u8], at: usize) -> usize
     requires { (K ≤ 8) × (at + K ≤ length l.now) }
     ensures { (result ≡ number_at K l.now at) × (result < 256 ^ K) }
 {
-    let mut n: usize = 0;
-    for x in &l[at..at + K] {
-        n = n * BYTE + *x as usize;
-    }
-    n
+    let mut eight = [0u8; 8];
+    eight[8 - K..].copy_from_slice(&l[at..at + K]);
+    usize::from_be_bytes(eight)
 }
 
 // Eight bytes as one word, the first byte the lowest: one load when compiled.

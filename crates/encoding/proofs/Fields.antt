@@ -5,6 +5,7 @@ use mathlib.Core.Bool.{Bool, true, false, not, or-true}
 use mathlib.Core.List.{List, [], ◌∷◌, flatten}
 use mathlib.Core.Option.{Option, none, some}
 use native.Mathlib.Omega.{arith}
+use Rattle.std.proofs.Common.{Result, Ok, Err, cond, ◌&&◌}
 use lib.ListN.{length}
 use lib.Dec.{ltb}
 use Rattle.loes.specs.Refusals.{Tests, test, first_of}
@@ -16,7 +17,29 @@ use Rattle.loes.specs.Read.{level_bytes, body_at, start2, start3, start4, width_
 use Rattle.loes.proofs.Tests.{lt_yes, lt_no, no_lt, neither, none_append, none_test, none_first, some_first}
 use Rattle.loes.proofs.Reading.{field_fits}
 use Rattle.encoding.specs.declared.Encoding.{Encoding}
-use Rattle.encoding.specs.Fields.{Fields}
+use Rattle.loes.specs.declared.refusal.Refusal.{Refusal}
+use Rattle.loes.specs.declared.refusal.Refusal.TheVariants.{WrongTag}
+use Rattle.encoding.specs.Fields.{body_bytes, laid_by, Fields}
+
+-- ---- A tag
+-- a tag whose turn may come says its length
+tag_in : (t m b : ℕ) → 0 < t → t < 7 → laid_by t m b ≡ Ok (body_bytes t m b)
+unfolding laid_by
+tag_in t m b p q = rw (lt_yes 0 t p, lt_yes t 7 q)
+
+pub tag_length : (t m b n : ℕ) → 0 < t → t < 7 → laid_by t m b ≡ Ok n → n ≡ body_bytes t m b
+tag_length t m b n p q h = let i = tag_in t m b p q in cc
+
+-- a tag that says the refusal is none of the turns
+pub tag_refused : (t m b : ℕ) (k : Refusal) → laid_by t m b ≡ Err k → (k ≡ WrongTag) × ((u : ℕ) → 0 < u → u < 7 → t ≡ u → ⊥)
+tag_refused t m b k h = (
+  go (ltb 0 t && ltb t 7) (unfold laid_by in h),
+  λ u p q e. let i : laid_by t m b ≡ Ok (body_bytes t m b) = tag_in t m b (omega arith) (omega arith) in cc,
+)
+  where
+    go : (c : Bool) → ◌≡◌ {A = Result ℕ Refusal} (cond c (Ok (body_bytes t m b)) (Err WrongTag)) (Err k) → k ≡ WrongTag
+    go false e = cc
+    go true e = cc
 
 -- ---- Tests behind tests
 -- the first part refuses

@@ -1,5 +1,5 @@
 -- What reading the fields finds.
-use Rattle.std.specs.Prelude.{◌≡◌, ℕ, ◌^◌, ◌<◌, cond, eqb, Result, Ok, Err}
+use Rattle.std.specs.Prelude.{◌≡◌, ℕ, ◌^◌, ◌<◌, ◌&&◌, cond, eqb, ltb, Result, Ok, Err}
 use mathlib.Core.Option.{Option, none, some}
 use Rattle.loes.specs.Limits.{width_bytes, count_bytes}
 use Rattle.loes.specs.Bytes.{Bytes, number_at}
@@ -7,20 +7,10 @@ use Rattle.loes.specs.Refusals.{first_of}
 use Rattle.loes.specs.Numbers.{number_of}
 use Rattle.loes.specs.Read.{level_bytes, edge_bytes, block_bytes, sub_block_bytes, body_at, start2, width_in, edge_count_in, head_tests, tail_tests, rejected, read}
 use Rattle.loes.specs.declared.refusal.Refusal.{Refusal}
+use Rattle.loes.specs.declared.refusal.Refusal.TheVariants.{WrongTag}
 use Rattle.encoding.specs.declared.Encoding.{Encoding}
-use Rattle.encoding.specs.declared.field.Field.{Field}
-use Rattle.encoding.specs.declared.field.Field.TheVariants.{Width, Count, Levels, Edges, Blocks, SubBlocks}
 use Rattle.encoding.specs.declared.opening.Opened.{Opened}
 use Rattle.encoding.specs.Opened.{Placed}
-
--- the tag of a field
-abbrev pub tag_of : Field → ℕ
-tag_of Width = 1
-tag_of Count = 2
-tag_of Levels = 3
-tag_of Edges = 4
-tag_of Blocks = 5
-tag_of SubBlocks = 6
 
 -- what tests in order find, of a test by the code
 abbrev pub refusal_of : Result Unit Refusal → Option ℕ
@@ -36,6 +26,10 @@ body_bytes t m b =
     (cond (eqb t 4) (edge_bytes b)
     (cond (eqb t 5) (block_bytes b)
     (sub_block_bytes b)))))
+
+-- what a tag says: that length, or 2
+unfoldable pub laid_by : ℕ → ℕ → ℕ → Result ℕ Refusal
+laid_by t m b = cond (ltb 0 t && ltb t 7) (Ok (body_bytes t m b)) (Err WrongTag)
 
 -- every test before 7 is passed, and these are the numbers
 pub record Fields (l : Bytes) (e : Encoding) : Type 0 where

@@ -7,12 +7,17 @@ use native.Mathlib.Omega.{arith}
 use native.Mathlib.Decide.{le_ind, dec_le}
 use lib.ListN.{length, take, get_or, get_or-eq_default}
 use lib.Seq.{take-append-le, take_all}
-use Rattle.loes.specs.Bytes.{Bytes, tabulate, bit_at, bits_in}
+use mir.Val.{bool_byte}
+use Rattle.loes.specs.Bytes.{Bytes, bit, tabulate, bit_at, bits_in}
 use Rattle.loes.specs.Edges.{ones, rank}
 use Rattle.loes.proofs.Bits.{length_bits_in}
 
 pub up : (n : ℕ) → suc n ≡ n + 1
 up n = omega arith
+
+pub byte_bit : (b : Bool) → bool_byte b ≡ bit b
+byte_bit false = refl
+byte_bit true = refl
 
 pub bits_suc : (l : Bytes) (n : ℕ) → bits_in l (suc n) ≡ bits_in l n ++ bit_at l n ∷ []
 unfolding bits_in tabulate

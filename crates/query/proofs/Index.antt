@@ -21,7 +21,7 @@ use Rattle.bits.proofs.Counts.{rank_bits, ones_at}
 use Rattle.loes.proofs.Lists.{ones_le}
 use Rattle.encoding.specs.declared.Encoding.{Encoding}
 use Rattle.encoding.specs.Opened.{Opens, edges_at}
-use Rattle.encoding.proofs.Opened.{opens_room, opens_edges, opens_counted}
+use Rattle.encoding.proofs.Opened.{opens_room, opens_edges, opens_counted, room_at}
 use Rattle.encoding.proofs.Index.{sub_block_start}
 use Rattle.query.specs.Select.{numbered, InByte}
 use Rattle.query.proofs.Select.{byte_few, found_byte, ones_mono, select_more}
@@ -87,6 +87,10 @@ module _ (l : Bytes) (e : Encoding) (o : Opens l e) where
         ap (λ v. rank v from) (sym (opens_edges l e o)) ∙ rank_bits (drop e.edges l) e.bits from (omega arith) ∙ ap (λ v. ones (bits_in v from)) (sym part) in
         let w : drop (from / 8) d ≡ drop (e.edges + from / 8) l = ap (drop (from / 8)) part ∙ drop-drop (from / 8) e.edges l in
         (lt, omega (arith, y, ec, ap (λ v. ones (bits_in v (from % 8))) w, ones_at d (from / 8) (from % 8) from z))
+
+  -- the byte of an offset with set bits behind it lies in the bytes
+  pub behind_in : (from k : ℕ) → rank (edges_of (entry_in l)) from + k < ones (edges_of (entry_in l)) → e.edges + from / 8 < length l
+  behind_in from k h = (room_at l e from (opens_room l e o) (behind_is (drop e.edges l) refl from k _ h refl).0).0
 
   -- an edge that is set bit number k of byte i of the edges
   pub edge_in_byte : (n i k : ℕ) → n < ones (edges_of (entry_in l)) → InByte (drop e.edges l) n i k

@@ -58,12 +58,14 @@ module _ (e : Entry) (h : Valid e) (key : Bytes) where
   way_first q = record { at = unfold bits_in tabulate in sym (record_nil e.width e.set); on = unfold bits_in tabulate in sym (found_nil e.width e.set ∙ some_key q) }
 
   -- at the end
-  pub way_located : (w b r : ℕ) (f : Bool) → w ≡ e.width → b ≡ edge_count e → Way e key w r f → (b / 2 ≤ r) × Located e (bits_in key w) (r - b / 2) f
+  pub way_located : (w b r : ℕ) (f : Bool) → w ≡ e.width → b ≡ edge_count e → Way e key w r f → (b / 2 ≤ r) × Located e (bits_in key e.width) (r - b / 2) f
   unfolding edge_count edges_of keys_of
   way_located w b r f ew eb v =
-      let n = length_bits_in key w ∙ ew in
-      let q : r ≡ b / 2 + smaller (bits_in key w) (keys_of e) = rw eb (v.at ∙ record_end (bits_in key w) e.width e.set n) in
-      (omega (arith, q), record { below = omega (arith, q); inside = v.on ∙ found_prefix (bits_in key w) e.width e.set ∙ prefix_whole (bits_in key w) e.width e.set n })
+      let n = length_bits_in key e.width in
+      let y : r ≡ record_index (bits_in key e.width) e.width e.set = v.at ∙ ap (λ x. record_index (bits_in key x) e.width e.set) ew in
+      let z : f ≡ found e.width e.set (bits_in key e.width) = v.on ∙ ap (λ x. found e.width e.set (bits_in key x)) ew in
+      let q : r ≡ b / 2 + smaller (bits_in key e.width) (keys_of e) = rw eb (y ∙ record_end (bits_in key e.width) e.width e.set n) in
+      (omega (arith, q), record { below = omega (arith, q); inside = z ∙ found_prefix (bits_in key e.width) e.width e.set ∙ prefix_whole (bits_in key e.width) e.width e.set n })
 
   -- with no edges there is no record, and no prefix is found
   pub way_none : (d : ℕ) → d ≤ e.width → edge_count e ≡ 0 → Way e key d 0 false

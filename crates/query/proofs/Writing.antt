@@ -1,68 +1,80 @@
 -- The key of a path, byte by byte
 use mathlib.Core.Path.{◌≡◌, refl, sym, ap, ◌∙◌}
-use Prim.Native.Nat.{ℕ, suc, ◌+◌, ◌*◌, ◌/◌, ◌%◌, ◌≤◌, ◌<◌}
-use mathlib.Core.Bool.{false}
+use Prim.Native.Nat.{ℕ, zero, suc, ◌+◌, ◌-◌, ◌*◌, ◌/◌, ◌%◌, ◌^◌, ◌≤◌, ◌<◌}
+use mathlib.Core.Bool.{Bool, false}
 use mathlib.Core.List.{List, [], ◌∷◌, ◌++◌, append_assoc}
+use Rattle.std.proofs.Math.Nat.{mul_left_comm, pow-succ'}
 use native.Mathlib.Omega.{arith}
 use native.Mathlib.Decide.{le_ind}
-use lib.ListN.{length, drop, get_or, set, get_or-eq_default}
-use lib.Seq.{drop-cons, set-append_seam}
+use lib.ListN.{length, take, drop, get_or, set, get_or-eq_default, length-drop}
+use lib.Seq.{length-take-le, get_or-take, get_or-drop, drop-cons, set-append_seam}
 use Rattle.loes.specs.Bytes.{bit, odd, tabulate, bits_value, byte_of, pack_bits, started, front}
 use Rattle.loes.specs.Keys.{Key}
 use Rattle.loes.specs.Cursor.{key_of, key_of_path}
-use Rattle.loes.proofs.Bits.{bits_value_snoc, bit_odd, bits_value_lt}
+use Rattle.loes.proofs.Bits.{bits_value_snoc, bit_odd, bits_value_lt, tabulate_ext}
 use Rattle.loes.proofs.Bytes.{length_tabulate, get_d_tabulate}
 use Rattle.query.proofs.Paths.{key_length}
 
-pub bit_in : (os : List ℕ) (m q : ℕ) → q < m → get_or os q 0 % 2 ≡ bit (get_or (key_of_path os m) q false)
-unfolding key_of_path key_of
-bit_in os m q h = sym (bit_odd (get_or os q 0)) ∙ ap bit (sym (get_d_tabulate (λ (i : ℕ). odd (get_or os i 0)) m q false h))
+-- ---- The low bits of offsets as one number
+pub path_none : (os : List ℕ) → ◌≡◌ {A = ℕ} 0 (bits_value (key_of_path os 0) 0)
+unfolding key_of_path key_of tabulate bits_value
+path_none os = refl
 
-pub bit_out : (os : List ℕ) (m q : ℕ) → m ≤ q → ◌≡◌ {A = ℕ} 0 (bit (get_or (key_of_path os m) q false))
-unfolding key_of_path key_of
-bit_out os m q h = ap bit (sym (get_or-eq_default (tabulate (λ (i : ℕ). odd (get_or os i 0)) m) false (omega (arith, length_tabulate (λ (i : ℕ). odd (get_or os i 0)) m))))
+pub path_more : (os : List ℕ) (n v : ℕ) → v ≡ bits_value (key_of_path os n) 0 → 2 * v + get_or os n 0 % 2 ≡ bits_value (key_of_path os (n + 1)) 0
+unfolding key_of_path key_of tabulate
+path_more os n v h =
+    let z : n + 1 ≡ suc n = omega arith in
+    rw (z, h, ← (bit_odd (get_or os n 0))) (sym (bits_value_snoc (key_of_path os n) (odd (get_or os n 0)) 0))
 
--- the first e bits of byte j
-unfoldable pub up_to : Key → ℕ → ℕ → ℕ
-up_to k j e = bits_value (tabulate (λ (x : ℕ). get_or k (8 * j + x) false) e) 0
+pub path_small : (os : List ℕ) (n : ℕ) → n ≤ 8 → bits_value (key_of_path os n) 0 < 256
+unfolding key_of_path key_of tabulate
+path_small os n h =
+    let grows : bits_value (key_of_path os n) 0 ≤ bits_value (key_of_path os 8) 0 =
+    le_ind (λ (x : ℕ). bits_value (key_of_path os n) 0 ≤ bits_value (key_of_path os x) 0) (omega arith)
+    (λ x l y. omega (arith, y, bits_value_snoc (key_of_path os x) (odd (get_or os x 0)) 0)) 8 h in
+    omega (arith, grows, bits_value_lt (λ (x : ℕ). odd (get_or os x 0)))
 
-pub byte_none : (k : Key) (j : ℕ) → ◌≡◌ {A = ℕ} 0 (up_to k j 0)
-unfolding up_to bits_value tabulate
-byte_none k j = refl
-
-pub byte_more : (k : Key) (j e v x : ℕ) → v ≡ up_to k j e → x ≡ bit (get_or k (8 * j + e) false) → 2 * v + x ≡ up_to k j (e + 1)
-unfolding up_to tabulate
-byte_more k j e v x h g =
-    let z : e + 1 ≡ suc e = omega arith in
-    rw (z, h, g) (sym (bits_value_snoc (tabulate (λ (x : ℕ). get_or k (8 * j + x) false) e) (get_or k (8 * j + e) false) 0))
-
--- the bit of an offset
-pub byte_next : (os : List ℕ) (m j e v : ℕ) → 8 * j + e < m → v ≡ up_to (key_of_path os m) j e → 2 * v + get_or os (8 * j + e) 0 % 2 ≡ up_to (key_of_path os m) j (e + 1)
-byte_next os m j e v l h = byte_more (key_of_path os m) j e v (get_or os (8 * j + e) 0 % 2) h (bit_in os m (8 * j + e) l)
-
-pub byte_first : (os : List ℕ) (m j : ℕ) → 8 * j < m → get_or os (8 * j) 0 % 2 ≡ up_to (key_of_path os m) j 1
-byte_first os m j l =
-    let z : 8 * j + 0 ≡ 8 * j = omega arith in
-    let h : 2 * 0 + get_or os (8 * j + 0) 0 % 2 ≡ up_to (key_of_path os m) j 1 = byte_next os m j 0 0 (omega arith) (byte_none (key_of_path os m) j) in
-    let q : get_or os (8 * j + 0) 0 ≡ get_or os (8 * j) 0 = ap (λ i. get_or os i 0) z in
-    omega (arith, h, q)
-
-pub byte_all : (k : Key) (j e v : ℕ) → v ≡ up_to k j e → e ≡ 8 → v ≡ byte_of k j
-unfolding up_to byte_of
-byte_all k j e v h z = h ∙ ap (λ x. bits_value (tabulate (λ (x : ℕ). get_or k (8 * j + x) false) x) 0) z
+-- bits behind the last are 0
+zeros : (f : ℕ → Bool) (n i : ℕ) → ((x : ℕ) → n ≤ x → f x ≡ false) → bits_value (tabulate f (n + i)) 0 ≡ bits_value (tabulate f n) 0 * 2 ^ i
+unfolding tabulate
+zeros f n zero h = let z : n + 0 ≡ n = omega arith in rw z (omega arith)
+zeros f n (suc i) h =
+    let z : n + suc i ≡ suc (n + i) = omega arith in
+    let b : bit (f (n + i)) ≡ 0 = rw (h (n + i) (omega arith)) refl in
+    let d : bits_value (tabulate f n) 0 * 2 ^ suc i ≡ 2 * (bits_value (tabulate f n) 0 * 2 ^ i) = rw pow-succ' (mul_left_comm (bits_value (tabulate f n) 0) 2 (2 ^ i)) in
+    rw z (omega (arith, bits_value_snoc (tabulate f (n + i)) (f (n + i)) 0, zeros f n i h, b, d))
 
 pub byte_lt : (k : Key) (j : ℕ) → byte_of k j < 256
 unfolding byte_of
 byte_lt k j = bits_value_lt (λ (x : ℕ). get_or k (8 * j + x) false)
 
-pub byte_small : (k : Key) (j e : ℕ) → e ≤ 8 → up_to k j e < 256
-unfolding up_to tabulate
-byte_small k j e h =
-    let z : up_to k j e ≤ up_to k j 8 =
-    le_ind (λ (n : ℕ). up_to k j e ≤ up_to k j n) (omega arith)
-    (λ n l x. omega (arith, x, bits_value_snoc (tabulate (λ (x : ℕ). get_or k (8 * j + x) false) n) (get_or k (8 * j + n) false) 0)) 8 h in
-    let y = bits_value_lt (λ (x : ℕ). get_or k (8 * j + x) false) in
-    omega (arith, z, y)
+-- byte j of the key from the offsets of its bits
+module _ (os : List ℕ) (m j n : ℕ) (long : m ≤ length os) (few : n ≤ 8) (in_key : 8 * j + n ≤ m) where
+  bits_are : tabulate (λ (x : ℕ). get_or (key_of_path os m) (8 * j + x) false) n ≡ key_of_path (take n (drop (8 * j) os)) n
+  unfolding key_of_path key_of
+  bits_are =
+      tabulate_ext (λ (x : ℕ). get_or (key_of_path os m) (8 * j + x) false) (λ (x : ℕ). odd (get_or (take n (drop (8 * j) os)) x 0)) n
+      (λ x h. get_d_tabulate (λ (d : ℕ). odd (get_or os d 0)) m (8 * j + x) false (omega arith)
+      ∙ ap odd (sym (get_or-take n (drop (8 * j) os) x 0 h ∙ get_or-drop (8 * j) os x 0)))
+
+  abbrev bits_of : ℕ → Type 0
+  bits_of v = v ≡ bits_value (key_of_path (take n (drop (8 * j) os)) (length (take n (drop (8 * j) os)))) 0
+
+  value_is : (v : ℕ) → bits_of v → v ≡ bits_value (tabulate (λ (x : ℕ). get_or (key_of_path os m) (8 * j + x) false) n) 0
+  value_is v h = rw bits_are (rw (length-take-le n (drop (8 * j) os) (omega (arith, long, length-drop (8 * j) os))) at h)
+
+  pub byte_whole : n ≡ 8 → (v : ℕ) → bits_of v → v ≡ byte_of (key_of_path os m) j
+  unfolding byte_of
+  byte_whole e v h = value_is v h ∙ ap (λ i. bits_value (tabulate (λ (x : ℕ). get_or (key_of_path os m) (8 * j + x) false) i) 0) e
+
+  pub byte_part : 8 * j + n ≡ m → (v s : ℕ) → bits_of v → s ≡ 8 - n → v * 2 ^ s ≡ byte_of (key_of_path os m) j
+  unfolding byte_of key_of_path
+  byte_part e v s h q =
+      let f : ℕ → Bool = λ (x : ℕ). get_or (key_of_path os m) (8 * j + x) false in
+      let z : n + (8 - n) ≡ 8 = omega arith in
+      rw (value_is v h, q)
+      (sym (zeros f n (8 - n) (λ x h. get_or-eq_default (key_of_path os m) false (omega (arith, key_length (λ (d : ℕ). get_or os d 0) m))))
+      ∙ ap (λ i. bits_value (tabulate f i) 0) z)
 
 -- one byte more at the front
 pub written : (f : ℕ → ℕ) (j x : ℕ) (l out : List ℕ) → j < length l → out ≡ tabulate f j ++ drop j l → x ≡ f j → set out j x ≡ tabulate f (j + 1) ++ drop (j + 1) l

@@ -1,33 +1,29 @@
 -- What each answer says in the specification's words, with the lent buffers.
+use Rattle.std.specs.Prelude.{ℕ, Bool, true, false, Option, Some, None, Result, Ok, Err}
 use Rattle.loes.specs.Bytes.{Bytes}
+use Rattle.loes.specs.Numbers.{number_of}
 use Rattle.loes.specs.Model.{Answer, Outcome, refused, wrote_key, is_present, is_absent, is_none, index_is, saying, writing}
-use Rattle.query.specs.declared.Membership.{Membership}
-use Rattle.query.specs.declared.Membership.TheVariants as membership
-use Rattle.query.specs.declared.Lookup.{Lookup}
-use Rattle.query.specs.declared.Lookup.TheVariants as lookup
-use Rattle.query.specs.declared.Bound.{Bound}
-use Rattle.query.specs.declared.Bound.TheVariants as bound
-use Rattle.query.specs.declared.WrittenKey.{WrittenKey}
-use Rattle.query.specs.declared.WrittenKey.TheVariants as written
+use Rattle.loes.specs.declared.refusal.Refusal.{Refusal}
+use Rattle.bits.specs.declared.MemberIndex.{MemberIndex}
 
-abbrev pub membership_outcome : Membership → Outcome
-membership_outcome (membership.Refused k) = saying (refused k)
-membership_outcome membership.Present = saying is_present
-membership_outcome membership.Absent = saying is_absent
+abbrev pub membership_outcome : Result Bool Refusal → Outcome
+membership_outcome (Err k) = saying (refused (number_of k))
+membership_outcome (Ok true) = saying is_present
+membership_outcome (Ok false) = saying is_absent
 
-abbrev pub lookup_outcome : Lookup → Outcome
-lookup_outcome (lookup.Refused k) = saying (refused k)
-lookup_outcome (lookup.Index i) = saying (index_is i.0)
-lookup_outcome lookup.Absent = saying is_absent
+abbrev pub lookup_outcome : Result (Option MemberIndex) Refusal → Outcome
+lookup_outcome (Err k) = saying (refused (number_of k))
+lookup_outcome (Ok (Some i)) = saying (index_is i.0)
+lookup_outcome (Ok None) = saying is_absent
 
-abbrev pub bound_outcome : Bound → Outcome
-bound_outcome (bound.Refused k) = saying (refused k)
-bound_outcome (bound.Index i) = saying (index_is i.0)
-bound_outcome bound.End = saying is_none
+abbrev pub bound_outcome : Result (Option MemberIndex) Refusal → Outcome
+bound_outcome (Err k) = saying (refused (number_of k))
+bound_outcome (Ok (Some i)) = saying (index_is i.0)
+bound_outcome (Ok None) = saying is_none
 
-abbrev pub key_answer : WrittenKey → Answer
-key_answer (written.Refused k) = refused k
-key_answer (written.Bytes n) = wrote_key n
+abbrev pub key_answer : Result ℕ Refusal → Answer
+key_answer (Err k) = refused (number_of k)
+key_answer (Ok n) = wrote_key n
 
-abbrev pub key_outcome : WrittenKey → Bytes → Outcome
+abbrev pub key_outcome : Result ℕ Refusal → Bytes → Outcome
 key_outcome r out = writing (key_answer r) out

@@ -3,51 +3,23 @@
 
 ghost use Rattle.std.specs.Prelude.{◌+◌, ◌-◌, ◌*◌, ◌/◌, ◌<◌, ◌≤◌, ◌≡◌, true, false, ◌&&◌, not, ◌||◌, [], length, get_or, drop, eqb, leb, ltb};
 ghost use Rattle.loes.specs.Limits.{max_width, max_edges, max_bytes, block_bits, sub_block_bits};
-ghost use Rattle.loes.specs.Bytes.{bit, bits_in, byte_of, pack_bits, front};
+ghost use Rattle.loes.specs.Bytes.{bits_in, bits_value, byte_of, pack_bits, front};
 ghost use Rattle.loes.specs.Edges.{ones, rank};
 ghost use Rattle.loes.specs.Entry.{key_bytes, keys_of, count, edges_of};
-ghost use Rattle.loes.specs.Encode.{sub_block_ones};
+ghost use Rattle.loes.specs.Encode.{block_ones, sub_block_ones};
 ghost use Rattle.loes.specs.Read.{entry_in};
-ghost use Rattle.loes.specs.Model.{unused_set, contains, index_of, lower_bound, key_at};
+ghost use Rattle.loes.specs.Model.{contains, index_of, lower_bound, key_at};
 ghost use Rattle.loes.specs.Calls.{contains_call, index_of_call, key_at_call, lower_bound_call};
 ghost use Rattle.loes.specs.Cursor.{path_of, key_of_path};
-ghost use Rattle.bits.specs.Tables.{select, bits8, Tallies, Places};
-ghost use Rattle.encoding.specs.Opened.{Opens};
-ghost use Rattle.query.specs.Descent.{edge_from, DownTo, Way, Located};
+ghost use Rattle.bits.specs.Tables.{select};
+ghost use Rattle.query.specs.Descent.{edge_from, DownTo, Way, no_key, Sought};
 ghost use Rattle.query.specs.Select.{numbered, InByte, LastBlock, LastBy, level_start};
 ghost use Rattle.query.specs.Answers.{membership_outcome, lookup_outcome, bound_outcome, key_outcome};
 
 use bits::{EdgeOffset, MemberIndex, RecordIndex};
-use encoding::{Checked, Encoding};
-use loes::refusal::{BAD_KEY, OUT_OF_RANGE, SHORT_BUFFER};
-
-// ---- Answers
-#[derive(Clone, Copy)]
-pub enum Membership {
-    Refused(u8),
-    Present,
-    Absent,
-}
-
-#[derive(Clone, Copy)]
-pub enum Lookup {
-    Refused(u8),
-    Index(MemberIndex),
-    Absent,
-}
-
-#[derive(Clone, Copy)]
-pub enum Bound {
-    Refused(u8),
-    Index(MemberIndex),
-    End,
-}
-
-#[derive(Clone, Copy)]
-pub enum WrittenKey {
-    Refused(u8),
-    Bytes(usize),
-}
+use encoding::Encoding;
+use encoding::opening::Opened;
+use loes::Refusal;
 
 // ---- The descent
 // A descent on its way: the record of the key's prefix, or the one it would have, and whether that prefix is found.
@@ -62,45 +34,27 @@ fn edge_from(at: Spot, bit: bool) -> EdgeOffset
     requires { at.record.0 ≤ max_edges / 2 }
     ensures { result.0 ≡ edge_from at.record.0 at.found bit }
 {
-    let r = at.record.0;
-    if at.found && bit {
-        return EdgeOffset(2 * r + 1);
-    }
-    EdgeOffset(2 * r)
-}
-
-// The edge is set, if the descent is still on the key's way.
-fn edge_set(l: &[u8], e: Encoding, found: bool, o: EdgeOffset) -> bool
-    requires { Opens l.now e × (found ≡ true → o.0 < e.bits) }
-    ensures { result ≡ (found && get_or (edges_of (entry_in l.now)) o.0 false) }
-{
-    if found {
-        return encoding::edge_at(l, e, o);
-    }
-    false
+    EdgeOffset(2 * at.record.0 + usize::from(at.found && bit))
 }
 
 // One level down: one rank.
-fn step_down(l: &[u8], t: &[u8], e: Encoding, at: Spot, bit: bool) -> Spot
-    requires { Opens l.now e × Tallies t.now × (edge_from at.record.0 at.found bit ≤ e.bits) × (at.found ≡ true → edge_from at.record.0 at.found bit < e.bits) }
-    ensures { DownTo (edges_of (entry_in l.now)) at bit result }
+fn step_down(o: Opened<'_>, at: Spot, bit: bool) -> Spot
+    requires { (edge_from at.record.0 at.found bit ≤ o.encoding.bits) × (at.found ≡ true → edge_from at.record.0 at.found bit < o.encoding.bits) }
+    ensures { DownTo (edges_of (entry_in o.entry.bytes.now)) at bit result }
 {
-    let on = at.found;
-    let o = edge_from(at, bit);
-    let n = encoding::ones_before(l, t, e, o);
-    let f = edge_set(l, e, on, o);
+    let edge = edge_from(at, bit);
     Spot {
-        record: RecordIndex(n + 1),
-        found: f,
+        record: RecordIndex(o.ones_before(edge) + 1),
+        found: at.found && o.edge_at(edge),
     }
 }
 
 // So many levels down along a key or a prefix: the record number that its first bits have or would have there; in the empty set there is none.
-pub fn descend(l: &[u8], t: &[u8], e: Encoding, key: &[u8], levels: usize) -> Spot
-    requires { Opens l.now e × Tallies t.now × (levels ≤ e.width) × (levels ≤ 8 * length key.now) }
-    ensures { Way (entry_in l.now) key.now levels result.record.0 result.found }
+pub fn descend(o: Opened<'_>, key: &[u8], levels: usize) -> Spot
+    requires { (levels ≤ o.encoding.width) × (levels ≤ 8 * length key.now) }
+    ensures { Way (entry_in o.entry.bytes.now) key.now levels result.record.0 result.found }
 {
-    if e.bits == 0 {
+    if o.encoding.bits == 0 {
         return Spot {
             record: RecordIndex(0),
             found: false,
@@ -110,13 +64,20 @@ pub fn descend(l: &[u8], t: &[u8], e: Encoding, key: &[u8], levels: usize) -> Sp
         record: RecordIndex(0),
         found: true,
     };
-    let mut d: usize = 0;
-    while d < levels {
-        let bit = bits::bit_at(key, d);
-        at = step_down(l, t, e, at, bit);
-        d += 1;
+    for d in 0..levels {
+        at = step_down(o, at, bits::bit_at(key, d));
     }
     at
+}
+
+// ---- Keys as they are given
+// Refusal 8, of a key or a prefix of m bits: not as many bytes as they take, or an unused bit set.
+pub fn bad_key(m: usize, key: &[u8]) -> bool
+    requires { m ≤ max_width }
+    ensures { result ≡ no_key m key.now }
+{
+    let t = bits::bytes_for(m);
+    key.len() != t || (m != 0 && bits::unused_set(key, t, m))
 }
 
 // A key among the members: how many are smaller, and whether it is one.
@@ -126,44 +87,21 @@ pub struct Position {
     pub found: bool,
 }
 
-fn locate(l: &[u8], t: &[u8], e: Encoding, key: &[u8]) -> Position
-    requires { Opens l.now e × Tallies t.now × (e.width ≤ 8 * length key.now) }
-    ensures { Located (entry_in l.now) (bits_in key.now e.width) result.below.0 result.found }
+// Where a key is among the members, or refusal 8.
+fn locate(o: Opened<'_>, key: &[u8]) -> Result<Position, Refusal>
+    ensures { Sought (entry_in o.entry.bytes.now) key.now result }
 {
-    let at = descend(l, t, e, key, e.width);
-    let n = at.record.0 - e.bits / 2;
-    let f = at.found;
-    Position {
-        below: MemberIndex(n),
-        found: f,
+    if bad_key(o.encoding.width, key) {
+        return Err(Refusal::BadKey);
     }
-}
-
-// ---- Keys as they are given
-// Refusal 8, of a key or a prefix of m bits: not as many bytes as they take, or an unused bit set.
-pub fn bad_key(m: usize, key: &[u8]) -> bool
-    requires { m ≤ max_width }
-    ensures { result ≡ (not (eqb (length key.now) (key_bytes m)) || unused_set m key.now) }
-{
-    let t = bits::bytes_for(m);
-    if key.len() != t {
-        return true;
-    }
-    if m == 0 {
-        return false;
-    }
-    bits::unused_set(key, t, m)
+    let at = descend(o, key, o.encoding.width);
+    Ok(Position {
+        below: MemberIndex(at.record.0 - o.encoding.bits / 2),
+        found: at.found,
+    })
 }
 
 // ---- Select
-// The set bits of a byte.
-fn ones_in(t: &[u8], x: u8) -> usize
-    requires { Tallies t.now }
-    ensures { result ≡ ones (bits8 x) }
-{
-    t[x as usize] as usize
-}
-
 // A set bit: the byte that it is in, and its number among that byte's.
 #[derive(Clone, Copy)]
 struct BitInByte {
@@ -172,76 +110,92 @@ struct BitInByte {
 }
 
 // The set bit that has `left` set bits before it from byte `from` on, byte by byte.
-fn find_in_bytes(edges: &[u8], t: &[u8], from: usize, left: usize) -> BitInByte
-    requires { Tallies t.now × (length edges.now ≤ max_bytes) × (numbered edges.now from left < ones (bits_in edges.now (8 * length edges.now))) }
+fn find_in_bytes(edges: &[u8], from: usize, left: usize) -> BitInByte
+    requires { (length edges.now ≤ max_bytes) × (numbered edges.now from left < ones (bits_in edges.now (8 * length edges.now))) }
     ensures { InByte edges.now (numbered edges.now from left) result.byte result.number }
 {
-    let mut i = from;
-    let mut k = left;
-    let mut c = ones_in(t, edges[i]);
-    while c <= k {
-        k -= c;
-        i += 1;
-        c = ones_in(t, edges[i]);
+    let mut at = BitInByte {
+        byte: from,
+        number: left,
+    };
+    loop {
+        let ones = bits::tally(edges[at.byte]);
+        if at.number < ones {
+            return at;
+        }
+        at.number -= ones;
+        at.byte += 1;
     }
-    BitInByte { byte: i, number: k }
 }
 
 // The same, eight bytes at a time first: the set bit has eight bytes behind its own.
-fn find_from(edges: &[u8], t: &[u8], from: usize, left: usize) -> BitInByte
-    requires { Tallies t.now × (length edges.now ≤ max_bytes) × (numbered edges.now from left < ones (bits_in edges.now (8 * (length edges.now - 8)))) }
+fn find_from(edges: &[u8], from: usize, left: usize) -> BitInByte
+    requires { (length edges.now ≤ max_bytes) × (numbered edges.now from left < ones (bits_in edges.now (8 * (length edges.now - 8)))) }
     ensures { InByte edges.now (numbered edges.now from left) result.byte result.number }
 {
-    let mut i = from;
-    let mut k = left;
-    let mut c = bits::word_ones(edges, i);
-    while c <= k {
-        k -= c;
-        i += 8;
-        c = bits::word_ones(edges, i);
+    let mut byte = from;
+    let mut number = left;
+    loop {
+        let ones = bits::word_ones(edges, byte);
+        if number < ones {
+            return find_in_bytes(edges, byte, number);
+        }
+        number -= ones;
+        byte += 8;
     }
-    find_in_bytes(edges, t, i, k)
+}
+
+// The set bits before block j.
+fn block_start(o: Opened<'_>, j: usize) -> usize
+    requires { block_bits * j < o.encoding.bits }
+    ensures { result ≡ block_ones (edges_of (entry_in o.entry.bytes.now)) j }
+{
+    bits::number::<8>(o.bytes, o.encoding.blocks + Encoding::BLOCK_ENTRY * j)
+}
+
+// The set bits of its block before sub-block j.
+fn sub_block_start(o: Opened<'_>, j: usize) -> usize
+    requires { sub_block_bits * j < o.encoding.bits }
+    ensures { result ≡ sub_block_ones (edges_of (entry_in o.entry.bytes.now)) j }
+{
+    bits::number::<2>(
+        o.bytes,
+        o.encoding.sub_blocks + Encoding::SUB_BLOCK_ENTRY * j,
+    )
 }
 
 // The last block with at most k set bits before it.
-fn block_of(l: &[u8], e: Encoding, k: usize) -> usize
-    requires { Opens l.now e × (0 < e.bits) }
-    ensures { LastBlock (edges_of (entry_in l.now)) e.bits k result }
+fn block_of(o: Opened<'_>, k: usize) -> usize
+    requires { 0 < o.encoding.bits }
+    ensures { LastBlock (edges_of (entry_in o.entry.bytes.now)) o.entry.encoding.bits k result }
 {
-    let b = e.bits;
-    let mut j: usize = 0;
-    while Encoding::BLOCK_BITS * (j + 1) < b {
-        let n = bits::number8(l, e.blocks + Encoding::BLOCK_ENTRY * (j + 1));
-        if k < n {
+    let last = (o.encoding.bits - 1) / Encoding::BLOCK_BITS;
+    for j in 0..last {
+        if k < block_start(o, j + 1) {
             return j;
         }
-        j += 1;
     }
-    j
+    last
 }
 
 // Whether sub-block j is there, with at most k set bits of its block before it.
-fn begins_by(l: &[u8], e: Encoding, j: usize, k: usize) -> bool
-    requires { Opens l.now e × (j ≤ max_edges) }
-    ensures { result ≡ (ltb (sub_block_bits * j) e.bits && leb (sub_block_ones (edges_of (entry_in l.now)) j) k) }
+fn begins_by(o: Opened<'_>, j: usize, k: usize) -> bool
+    requires { j ≤ max_edges }
+    ensures { result ≡ (ltb (sub_block_bits * j) o.entry.encoding.bits && leb (sub_block_ones (edges_of (entry_in o.entry.bytes.now)) j) k) }
 {
-    if Encoding::SUB_BLOCK_BITS * j < e.bits {
-        let n = bits::number2(l, e.sub_blocks + Encoding::SUB_BLOCK_ENTRY * j);
-        return n <= k;
-    }
-    false
+    Encoding::SUB_BLOCK_BITS * j < o.encoding.bits && sub_block_start(o, j) <= k
 }
 
 // The last sub-block of a block with at most k set bits of the block before it, by halving.
-fn sub_block_of(l: &[u8], e: Encoding, block: usize, k: usize) -> usize
-    requires { Opens l.now e × (block_bits * block < e.bits) }
-    ensures { LastBy (edges_of (entry_in l.now)) e.bits block k result }
+fn sub_block_of(o: Opened<'_>, block: usize, k: usize) -> usize
+    requires { block_bits * block < o.encoding.bits }
+    ensures { LastBy (edges_of (entry_in o.entry.bytes.now)) o.entry.encoding.bits block k result }
 {
     let mut low = Encoding::SUB_BLOCKS * block;
     let mut high = low + Encoding::SUB_BLOCKS;
     while low + 1 < high {
         let mid = (low + high) / 2;
-        if begins_by(l, e, mid, k) {
+        if begins_by(o, mid, k) {
             low = mid;
         } else {
             high = mid;
@@ -251,350 +205,201 @@ fn sub_block_of(l: &[u8], e: Encoding, block: usize, k: usize) -> usize
 }
 
 // The same, by a sub-block of the block that may be it or the one behind it, if the entries say so.
-fn sub_block_near(l: &[u8], e: Encoding, block: usize, k: usize, hint: usize) -> usize
-    requires { Opens l.now e × (block_bits * block < e.bits) }
-    ensures { LastBy (edges_of (entry_in l.now)) e.bits block k result }
+fn sub_block_near(o: Opened<'_>, block: usize, k: usize, hint: usize) -> usize
+    requires { block_bits * block < o.encoding.bits }
+    ensures { LastBy (edges_of (entry_in o.entry.bytes.now)) o.entry.encoding.bits block k result }
 {
-    if hint / Encoding::SUB_BLOCKS != block {
-        return sub_block_of(l, e, block, k);
-    }
-    if begins_by(l, e, hint, k) {
-        if begins_by(l, e, hint + 1, k) {
-            return sub_block_of(l, e, block, k);
+    if hint / Encoding::SUB_BLOCKS == block {
+        if begins_by(o, hint, k) {
+            if !begins_by(o, hint + 1, k) {
+                return hint;
+            }
+        } else if hint % Encoding::SUB_BLOCKS != 0 && begins_by(o, hint - 1, k) {
+            return hint - 1;
         }
-        return hint;
     }
-    if hint % Encoding::SUB_BLOCKS == 0 {
-        return sub_block_of(l, e, block, k);
-    }
-    if begins_by(l, e, hint - 1, k) {
-        return hint - 1;
-    }
-    sub_block_of(l, e, block, k)
+    sub_block_of(o, block, k)
 }
 
 // The edge that leads to a record: the set bit of the record's number less 1, by block, sub-block, words and bytes. A hint that is its sub-block, or the one behind that, saves a search.
-fn find_by_index(l: &[u8], t: &[u8], e: Encoding, r: RecordIndex, hint: usize) -> BitInByte
-    requires { Opens l.now e × Tallies t.now × (0 < r.0) × (r.0 - 1 < ones (edges_of (entry_in l.now))) }
-    ensures { InByte (drop e.edges l.now) (r.0 - 1) result.byte result.number }
+fn find_by_index(o: Opened<'_>, r: RecordIndex, hint: usize) -> BitInByte
+    requires { (0 < r.0) × (r.0 - 1 < ones (edges_of (entry_in o.bytes.now))) }
+    ensures { InByte (drop o.entry.encoding.edges o.entry.bytes.now) (r.0 - 1) result.byte result.number }
 {
     let k = r.0 - 1;
-    let block = block_of(l, e, k);
-    let in_block = k - bits::number8(l, e.blocks + Encoding::BLOCK_ENTRY * block);
-    let sub = sub_block_near(l, e, block, in_block, hint);
-    let left = in_block - bits::number2(l, e.sub_blocks + Encoding::SUB_BLOCK_ENTRY * sub);
-    let start = e.edges;
-    find_from(&l[start..], t, Encoding::SUB_BLOCK_BYTES * sub, left)
+    let block = block_of(o, k);
+    let in_block = k - block_start(o, block);
+    let sub = sub_block_near(o, block, in_block, hint);
+    let left = in_block - sub_block_start(o, sub);
+    find_from(
+        &o.bytes[o.encoding.edges..],
+        Encoding::SUB_BLOCK_BYTES * sub,
+        left,
+    )
 }
 
 // The set bit that has k set bits before it from an offset on.
-fn find_behind(l: &[u8], t: &[u8], e: Encoding, from: EdgeOffset, k: usize) -> BitInByte
-    requires { Opens l.now e × Tallies t.now × (rank (edges_of (entry_in l.now)) from.0 + k < ones (edges_of (entry_in l.now))) }
-    ensures { InByte (drop e.edges l.now) (rank (edges_of (entry_in l.now)) from.0 + k) result.byte result.number }
+fn find_behind(o: Opened<'_>, from: EdgeOffset, k: usize) -> BitInByte
+    requires { (rank (edges_of (entry_in o.bytes.now)) from.0 + k < ones (edges_of (entry_in o.bytes.now))) }
+    ensures { InByte (drop o.entry.encoding.edges o.entry.bytes.now) (rank (edges_of (entry_in o.entry.bytes.now)) from.0 + k) result.byte result.number }
 {
-    let start = e.edges;
     let at = from.0 / 8;
-    let before = bits::tally_part(l, t, start + at, from.0 % 8);
-    find_from(&l[start..], t, at, before + k)
+    let before = bits::tally_part(o.bytes, o.encoding.edges + at, from.0 % 8);
+    find_from(&o.bytes[o.encoding.edges..], at, before + k)
 }
 
 // So few set bits are counted from the level's start.
 const FEW_RECORDS: usize = 128;
 
 // The edge that leads to a record, which is number k of its level; the edge's level begins at an offset.
-fn find_edge(
-    l: &[u8],
-    t: &[u8],
-    e: Encoding,
-    r: RecordIndex,
-    from: EdgeOffset,
-    k: usize,
-    hint: usize,
-) -> BitInByte
-    requires { Opens l.now e × Tallies t.now × (0 < r.0) × (r.0 - 1 < ones (edges_of (entry_in l.now))) × (rank (edges_of (entry_in l.now)) from.0 + k ≡ r.0 - 1) }
-    ensures { InByte (drop e.edges l.now) (r.0 - 1) result.byte result.number }
+fn find_edge(o: Opened<'_>, r: RecordIndex, from: EdgeOffset, k: usize, hint: usize) -> BitInByte
+    requires { (0 < r.0) × (r.0 - 1 < ones (edges_of (entry_in o.bytes.now))) × (rank (edges_of (entry_in o.bytes.now)) from.0 + k ≡ r.0 - 1) }
+    ensures { InByte (drop o.entry.encoding.edges o.entry.bytes.now) (r.0 - 1) result.byte result.number }
 {
     if k < FEW_RECORDS {
-        return find_behind(l, t, e, from, k);
+        return find_behind(o, from, k);
     }
-    find_by_index(l, t, e, r, hint)
+    find_by_index(o, r, hint)
 }
 
 // The offset of that edge: its place in its byte is in the table.
-fn edge_up(
-    l: &[u8],
-    t: &[u8],
-    places: &[u32],
-    e: Encoding,
-    r: RecordIndex,
-    from: EdgeOffset,
-    k: usize,
-    hint: usize,
-) -> EdgeOffset
-    requires { Opens l.now e × Tallies t.now × Places places.now × (0 < r.0) × (r.0 - 1 < ones (edges_of (entry_in l.now))) × (rank (edges_of (entry_in l.now)) from.0 + k ≡ r.0 - 1) }
-    ensures { result.0 ≡ select (edges_of (entry_in l.now)) (r.0 - 1) }
+fn edge_up(o: Opened<'_>, r: RecordIndex, from: EdgeOffset, k: usize, hint: usize) -> EdgeOffset
+    requires { (0 < r.0) × (r.0 - 1 < ones (edges_of (entry_in o.bytes.now))) × (rank (edges_of (entry_in o.bytes.now)) from.0 + k ≡ r.0 - 1) }
+    ensures { result.0 ≡ select (edges_of (entry_in o.entry.bytes.now)) (r.0 - 1) }
 {
-    let found = find_edge(l, t, e, r, from, k, hint);
-    let byte = found.byte;
-    let number = found.number;
-    let x = l[e.edges + byte];
-    let o = 8 * byte + bits::place(places, x, number);
-    EdgeOffset(o)
+    let found = find_edge(o, r, from, k, hint);
+    let x = o.bytes[o.encoding.edges + found.byte];
+    EdgeOffset(8 * found.byte + bits::place(x, found.number))
 }
 
 // Where level d begins.
-fn level_start(l: &[u8], e: Encoding, d: usize) -> EdgeOffset
-    requires { Opens l.now e × (d ≤ e.width) }
-    ensures { result.0 ≡ level_start (entry_in l.now) d }
+fn level_start(o: Opened<'_>, d: usize) -> EdgeOffset
+    requires { d ≤ o.encoding.width }
+    ensures { result.0 ≡ level_start (entry_in o.entry.bytes.now) d }
 {
     if d == 0 {
         return EdgeOffset(0);
     }
-    encoding::level_end(l, e, d - 1)
-}
-
-// Where the next offset might be, as far above as this one is above the last.
-fn guess_from(last: EdgeOffset, o: EdgeOffset) -> EdgeOffset
-    requires { o.0 ≤ max_edges }
-{
-    if 2 * o.0 < last.0 {
-        return EdgeOffset(0);
-    }
-    EdgeOffset(2 * o.0 - last.0)
+    o.level_end(d - 1)
 }
 
 // ---- Paths and their keys
 // The offsets of member i's edges, from the last level up.
-fn path_at(l: &[u8], t: &[u8], places: &[u32], e: Encoding, i: MemberIndex, offsets: &mut [usize])
-    requires { Opens l.now e × Tallies t.now × Places places.now × (i.0 < e.count) × (e.width ≤ length offsets.old) }
-    ensures { offsets.new ≡ front (path_of (entry_in l.now) (get_or (keys_of (entry_in l.now)) i.0 [])) offsets.old }
+fn path_at(o: Opened<'_>, i: MemberIndex, offsets: &mut [usize])
+    requires { (i.0 < o.encoding.count) × (o.encoding.width ≤ length offsets.old) }
+    ensures { offsets.new ≡ front (path_of (entry_in o.entry.bytes.now) (get_or (keys_of (entry_in o.entry.bytes.now)) i.0 [])) offsets.old }
 {
-    let n = i.0;
-    let mut r = e.bits / 2 + n;
-    let mut d = e.width;
-    let mut end = e.bits;
-    let mut last = e.bits;
-    let mut guess = e.bits;
-    while 0 < d {
-        d -= 1;
-        let start = level_start(l, e, d);
-        let k = r - end / 2;
-        let o = edge_up(
-            l,
-            t,
-            places,
-            e,
-            RecordIndex(r),
-            start,
-            k,
-            guess / Encoding::SUB_BLOCK_BITS,
-        );
-        let q = o.0;
-        offsets[d] = q;
-        let next = guess_from(EdgeOffset(last), o);
-        guess = next.0;
-        last = q;
+    let mut record = o.encoding.bits / 2 + i.0;
+    let mut end = o.encoding.bits;
+    let mut last = o.encoding.bits;
+    // where the edge might be: as far above the last as that one above the one before
+    let mut guess = o.encoding.bits;
+    for d in (0..o.encoding.width).rev() {
+        let start = level_start(o, d);
+        let hint = guess / Encoding::SUB_BLOCK_BITS;
+        let edge = edge_up(o, RecordIndex(record), start, record - end / 2, hint);
+        offsets[d] = edge.0;
+        guess = (2 * edge.0).saturating_sub(last);
+        last = edge.0;
         end = start.0;
-        r = q / 2;
+        record = edge.0 / 2;
     }
 }
 
-// Bit q of the key of a path; none behind its last.
-fn key_bit(offsets: &[usize], m: usize, q: usize) -> usize
-    requires { m ≤ length offsets.now }
-    ensures { result ≡ bit (get_or (key_of_path offsets.now m) q false) }
+// The low bits of offsets as one number, the first the highest.
+fn low_bits(offsets: &[usize]) -> usize
+    requires { length offsets.now ≤ 8 }
+    ensures { result ≡ bits_value (key_of_path offsets.now (length offsets.now)) 0 }
 {
-    if q < m {
-        return offsets[q] % 2;
+    let mut bits = 0;
+    for offset in offsets {
+        bits = 2 * bits + offset % 2;
     }
-    0
+    bits
 }
 
-// Byte j of the key of a path, bit by bit; a key has fewer bytes than it may have bits.
-fn part_byte(offsets: &[usize], m: usize, j: usize) -> u8
-    requires { (m ≤ length offsets.now) × (j < max_width) }
-    ensures { result ≡ byte_of (key_of_path offsets.now m) j }
-{
-    let mut v: usize = 0;
-    let mut e: usize = 0;
-    while e < 8 {
-        let x = key_bit(offsets, m, 8 * j + e);
-        v = 2 * v + x;
-        e += 1;
-    }
-    v as u8
-}
-
-// The same for a byte whose bits are all of the key.
-fn whole_byte(offsets: &[usize], m: usize, j: usize) -> u8
-    requires { (m ≤ length offsets.now) × (8 * j + 8 ≤ m) × (j < max_width) }
-    ensures { result ≡ byte_of (key_of_path offsets.now m) j }
-{
-    let at = 8 * j;
-    let a = offsets[at] % 2;
-    let b = 2 * a + offsets[at + 1] % 2;
-    let c = 2 * b + offsets[at + 2] % 2;
-    let d = 2 * c + offsets[at + 3] % 2;
-    let e = 2 * d + offsets[at + 4] % 2;
-    let f = 2 * e + offsets[at + 5] % 2;
-    let g = 2 * f + offsets[at + 6] % 2;
-    let h = 2 * g + offsets[at + 7] % 2;
-    h as u8
-}
-
-// Byte j of the key of a path.
-fn key_byte(offsets: &[usize], m: usize, j: usize) -> u8
-    requires { (m ≤ length offsets.now) × (j < max_width) }
-    ensures { result ≡ byte_of (key_of_path offsets.now m) j }
-{
-    if 8 * j + 8 <= m {
-        return whole_byte(offsets, m, j);
-    }
-    part_byte(offsets, m, j)
-}
-
-// Writes the key of a path to the front of a buffer.
+// Writes the key of a path to the front of a buffer: eight bits a byte, then what is left, with unused bits 0.
 pub fn write_key(offsets: &[usize], m: usize, out: &mut [u8]) -> usize
     requires { (m ≤ max_width) × (m ≤ length offsets.now) × (key_bytes m ≤ length out.old) }
     ensures { (result ≡ key_bytes m) × (out.new ≡ front (pack_bits (key_of_path offsets.now m)) out.old) }
 {
-    let t = bits::bytes_for(m);
-    let mut j: usize = 0;
-    while j < t {
-        out[j] = key_byte(offsets, m, j);
-        j += 1;
+    let whole = m / 8;
+    for j in 0..whole {
+        out[j] = low_bits(&offsets[8 * j..8 * j + 8]) as u8;
     }
-    t
-}
-
-// Room for a path.
-fn room() -> [usize; Encoding::MAX_WIDTH]
-    ensures { length result ≡ max_width }
-{
-    [0usize; Encoding::MAX_WIDTH]
+    let left = m % 8;
+    if left == 0 {
+        return whole;
+    }
+    out[whole] = (low_bits(&offsets[8 * whole..m]) << (8 - left)) as u8;
+    whole + 1
 }
 
 // ---- Questions behind the check
 // Whether a key is a member.
-pub fn contains_in(l: &[u8], t: &[u8], e: Encoding, key: &[u8]) -> Membership
-    requires { Opens l.now e × Tallies t.now }
-    ensures { membership_outcome result ≡ (contains (entry_in l.now) key.now).outcome }
+pub fn contains_in(o: Opened<'_>, key: &[u8]) -> Result<bool, Refusal>
+    ensures { membership_outcome result ≡ (contains (entry_in o.entry.bytes.now) key.now).outcome }
 {
-    if bad_key(e.width, key) {
-        return Membership::Refused(BAD_KEY);
-    }
-    let p = locate(l, t, e, key);
-    if p.found {
-        return Membership::Present;
-    }
-    Membership::Absent
+    Ok(locate(o, key)?.found)
 }
 
 // A key's index among the members, or that it is none.
-pub fn index_of_in(l: &[u8], t: &[u8], e: Encoding, key: &[u8]) -> Lookup
-    requires { Opens l.now e × Tallies t.now }
-    ensures { lookup_outcome result ≡ (index_of (entry_in l.now) key.now).outcome }
+pub fn index_of_in(o: Opened<'_>, key: &[u8]) -> Result<Option<MemberIndex>, Refusal>
+    ensures { lookup_outcome result ≡ (index_of (entry_in o.entry.bytes.now) key.now).outcome }
 {
-    if bad_key(e.width, key) {
-        return Lookup::Refused(BAD_KEY);
-    }
-    let p = locate(l, t, e, key);
-    let i = p.below;
-    if p.found {
-        return Lookup::Index(i);
-    }
-    Lookup::Absent
+    let at = locate(o, key)?;
+    Ok(at.found.then_some(at.below))
 }
 
 // The index of the smallest member not below a key, or that there is none.
-pub fn lower_bound_in(l: &[u8], t: &[u8], e: Encoding, key: &[u8]) -> Bound
-    requires { Opens l.now e × Tallies t.now }
-    ensures { bound_outcome result ≡ (lower_bound (entry_in l.now) key.now).outcome }
+pub fn lower_bound_in(o: Opened<'_>, key: &[u8]) -> Result<Option<MemberIndex>, Refusal>
+    ensures { bound_outcome result ≡ (lower_bound (entry_in o.entry.bytes.now) key.now).outcome }
 {
-    if bad_key(e.width, key) {
-        return Bound::Refused(BAD_KEY);
-    }
-    let p = locate(l, t, e, key);
-    let i = p.below;
-    if i.0 == e.count {
-        return Bound::End;
-    }
-    Bound::Index(i)
+    let at = locate(o, key)?;
+    Ok((at.below.0 != o.encoding.count).then_some(at.below))
 }
 
-// Writes the member at an index to the front of a buffer.
-pub fn key_at_in(
-    l: &[u8],
-    t: &[u8],
-    places: &[u32],
-    e: Encoding,
-    i: MemberIndex,
-    out: &mut [u8],
-) -> WrittenKey
-    requires { Opens l.now e × Tallies t.now × Places places.now }
-    ensures { key_outcome result out.new ≡ (key_at (entry_in l.now) i.0 out.old).outcome }
+// Writes the member at an index to the front of a buffer, and tells its bytes.
+pub fn key_at_in(o: Opened<'_>, i: MemberIndex, out: &mut [u8]) -> Result<usize, Refusal>
+    ensures { key_outcome result out.new ≡ (key_at (entry_in o.entry.bytes.now) i.0 out.old).outcome }
 {
-    if e.count <= i.0 {
-        return WrittenKey::Refused(OUT_OF_RANGE);
+    if o.encoding.count <= i.0 {
+        return Err(Refusal::OutOfRange);
     }
-    let m = e.width;
+    let m = o.encoding.width;
     if out.len() < bits::bytes_for(m) {
-        return WrittenKey::Refused(SHORT_BUFFER);
+        return Err(Refusal::ShortBuffer);
     }
-    let mut offsets = room();
-    path_at(l, t, places, e, i, &mut offsets);
-    let n = write_key(&offsets, m, out);
-    WrittenKey::Bytes(n)
+    let mut offsets = [0usize; Encoding::MAX_WIDTH];
+    path_at(o, i, &mut offsets);
+    Ok(write_key(&offsets, m, out))
 }
 
 // ---- Calls: the check, then the question
 // Whether a key is a member (document 01: present or not).
-pub fn contains(l: &[u8], key: &[u8]) -> Membership
+pub fn contains(l: &[u8], key: &[u8]) -> Result<bool, Refusal>
     ensures { membership_outcome result ≡ contains_call l.now key.now }
 {
-    let t = bits::tallies();
-    let checked = encoding::check(l, &t);
-    match checked {
-        Checked::Refused(k) => Membership::Refused(k),
-        Checked::Opened(e) => contains_in(l, &t, e, key),
-    }
+    contains_in(encoding::open(l)?, key)
 }
 
 // A key's index among the members, or that it is none (document 01: lot).
-pub fn index_of(l: &[u8], key: &[u8]) -> Lookup
+pub fn index_of(l: &[u8], key: &[u8]) -> Result<Option<MemberIndex>, Refusal>
     ensures { lookup_outcome result ≡ index_of_call l.now key.now }
 {
-    let t = bits::tallies();
-    let checked = encoding::check(l, &t);
-    match checked {
-        Checked::Refused(k) => Lookup::Refused(k),
-        Checked::Opened(e) => index_of_in(l, &t, e, key),
-    }
+    index_of_in(encoding::open(l)?, key)
 }
 
 // The index of the smallest member not below a key, or that there is none (document 01: seek).
-pub fn lower_bound(l: &[u8], key: &[u8]) -> Bound
+pub fn lower_bound(l: &[u8], key: &[u8]) -> Result<Option<MemberIndex>, Refusal>
     ensures { bound_outcome result ≡ lower_bound_call l.now key.now }
 {
-    let t = bits::tallies();
-    let checked = encoding::check(l, &t);
-    match checked {
-        Checked::Refused(k) => Bound::Refused(k),
-        Checked::Opened(e) => lower_bound_in(l, &t, e, key),
-    }
+    lower_bound_in(encoding::open(l)?, key)
 }
 
 // Writes the member at an index to the front of a buffer (document 01: ticket of a lot).
-pub fn key_at(l: &[u8], i: MemberIndex, out: &mut [u8]) -> WrittenKey
+pub fn key_at(l: &[u8], i: MemberIndex, out: &mut [u8]) -> Result<usize, Refusal>
     ensures { key_outcome result out.new ≡ key_at_call l.now i.0 out.old }
 {
-    let t = bits::tallies();
-    let checked = encoding::check(l, &t);
-    match checked {
-        Checked::Refused(k) => WrittenKey::Refused(k),
-        Checked::Opened(e) => {
-            let places = bits::places();
-            key_at_in(l, &t, &places, e, i, out)
-        }
-    }
+    key_at_in(encoding::open(l)?, i, out)
 }

@@ -7,6 +7,7 @@ use native.Mathlib.Omega.{arith}
 use native.Mathlib.Decide.{dec_le}
 use lib.ListN.{length, get_or, take, length-take}
 use lib.Seq.{length-take-le, get_or-take}
+use Rattle.std.specs.Int.{next_multiple_of}
 use Rattle.loes.specs.Bytes.{Bytes, odd, bit_at, bits_in, started, pack_bits}
 use Rattle.loes.specs.Edges.{record_bits}
 use Rattle.loes.proofs.Bytes.{length_packed}
@@ -33,7 +34,7 @@ empty_code : record_of_code 0 ≡ empty_record
 unfolding record_of_code empty_record odd
 empty_code = refl
 
-pub cleared_more : {o p u : Bytes} {k i : ℕ} → 0 < i % 4 → Cleared o k i p → Put i 0 p u → Cleared o k (i + 1) u
+pub cleared_more : {o p u : Bytes} {k i : ℕ} → i < next_multiple_of k 4 → Cleared o k i p → Put i 0 p u → Cleared o k (i + 1) u
 unfolding started
 cleared_more {i} h c t =
     record {
@@ -54,18 +55,18 @@ bit_record l o e = elim (dec_le (o % 2) 0) [
   | no y ↦ let z : 2 * (o / 2) + 1 ≡ o = omega arith in rw z at (ap (λ r. r.on_one) e)
 ]
 
-full : (k i : ℕ) → i % 4 ≡ 0 → k ≤ i → i ≤ 4 * started 8 (2 * k) → i ≡ 4 * started 8 (2 * k)
+full : (k i : ℕ) → next_multiple_of k 4 ≤ i → i ≤ 4 * started 8 (2 * k) → i ≡ 4 * started 8 (2 * k)
 unfolding started
-full k i z f n = omega arith
+full k i f n = omega arith
 
 room : (k l : ℕ) → k ≤ 4 * l → started 8 (2 * k) ≤ l
 unfolding started
 room k l h = omega arith
 
-pub sealed : {o p : Bytes} {k i : ℕ} → k ≤ 4 * length o → i % 4 ≡ 0 → Cleared o k i p → ((j : ℕ) → get_or p j 0 < 256) → Sealed k o p
+pub sealed : {o p : Bytes} {k i : ℕ} → k ≤ 4 * length o → next_multiple_of k 4 ≤ i → Cleared o k i p → ((j : ℕ) → get_or p j 0 < 256) → Sealed k o p
 sealed {o} {p} {k} {i} h z c small =
     let n : ℕ = started 8 (2 * k) in
-    let ni : i ≡ 4 * n = full k i z c.from c.near in
+    let ni : i ≡ 4 * n = full k i z c.near in
     let nl : n ≤ length p = rw c.size (room k (length o) h) in
     let ln : length (take n p) ≡ n = length-take-le n p nl in
     let e1 : bits_in (take n p) (2 * k) ≡ bits_in p (2 * k) = bits_taken p n (2 * k) (enough k) in

@@ -68,10 +68,8 @@ pub fn seal(out: &mut [u8], k: RecordIndex)
     requires { (k.0 ≤ 4 * length out.old) × (k.0 ≤ 4 * max_edges) }
     ensures { Sealed k.0 out.old out.new }
 {
-    let mut i = k.0;
-    while i % 4 > 0 {
+    for i in k.0..k.0.next_multiple_of(4) {
         put_record(out, RecordIndex(i), 0);
-        i += 1;
     }
 }
 

@@ -1,11 +1,8 @@
-use Prim.Native.Nat.{ℕ, ◌-◌, ◌*◌, ◌<◌}
+use Prim.Native.Nat.{ℕ, ◌<◌}
 use lib.ListN.{get_or}
-use Rattle.loes.specs.Bytes.{started}
 use Rattle.records.proofs.Sealing.{Cleared}
 use Rattle.records.proofs.seal.Given as goal
 
+-- the records from k up to i are cleared
 abbrev pub invariant-loop-i : goal.invariant-loop-i
-invariant-loop-i l = Cleared l.initial.out l.fn.k.0 l.i l.out × ((j : ℕ) → get_or l.out j 0 < 256)
-
-abbrev pub decreases-loop-i : goal.decreases-loop-i
-decreases-loop-i l = 4 * started 8 (2 * l.fn.k.0) - l.i
+invariant-loop-i l = record { cleared : Cleared l.initial.out l.fn.k.0 l.i l.out; bytes : (j : ℕ) → get_or l.out j 0 < 256 }
