@@ -27,7 +27,7 @@ use Rattle.join.specs.Joining.{pair_refusal, Joined}
 use Rattle.join.specs.declared.pair.Pair.{Pair}
 use Rattle.join.specs.declared.joined.JoinedEdges.{JoinedEdges}
 use Rattle.records.specs.declared.edge_bytes.EdgeBytes.{EdgeBytes}
-use Rattle.join.proofs.Joins.{opened_within, widths_same, pair_refused, held_valid, join_held, join_joined, joined_bits}
+use Rattle.join.proofs.Joins.{opened_within, widths_same, pair_alike, pair_refused, held_valid, join_held, join_joined, joined_bits}
 use Rattle.divide.specs.declared.Three.{Three}
 use Rattle.divide.specs.Division.{MarksFit, Divided, DivideRoom}
 use Rattle.split.specs.Splitting.{SplitRoom}
@@ -121,7 +121,7 @@ pub split_parts : (p : Pair) (a b x y z : Bytes) (d e s t u : Entry) → p.first
     → s ≡ both_entry d e → t ≡ difference_entry d e → u ≡ difference_entry e d → (writes [] (s ∷ t ∷ u ∷ []) (x ∷ y ∷ z ∷ [])).outcome ≡ split_call a b x y z
 unfolding split_call split reading after_reading
 split_parts p a b x y z d e s t u ha hb hd he hs ht hu =
-    let w : d.width ≡ e.width = rw (hd, he) (sym p.first.opens.width ∙ p.one_width ∙ p.second.opens.width) in
+    let w : d.width ≡ e.width = rw (hd, he) (pair_alike p) in
     let ra : read a ≡ opened d = rw (← ha, hd) p.first.opens.reads in
     let rb : read b ≡ opened e = rw (← hb, he) p.second.opens.reads in
     ap (λ l. (writes [] l (x ∷ y ∷ z ∷ [])).outcome) (ap₂ ◌∷◌ hs (ap₂ ◌∷◌ ht (ap (λ x. x ∷ []) hu)))
