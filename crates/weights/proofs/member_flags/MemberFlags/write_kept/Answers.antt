@@ -10,11 +10,10 @@ use lib.Dec.{eqb}
 use mir.Val.{SFits, to_z, of_z}
 use borrow.Author.Rules.{rules}
 use Rattle.loes.specs.Bytes.{tabulate}
-use Rattle.pack.proofs.SetBits.{byte_bit}
 use Rattle.records.specs.Records.{flags_from, first_count}
 use Rattle.weights.specs.Weights.{no_weight}
 use Rattle.weights.specs.Lists.{kept_to}
-use Rattle.weights.proofs.Flags.{first_within, first_next, kept_next, kept_more}
+use Rattle.weights.proofs.Flags.{byte_bit, first_within, first_next, kept_next, kept_more}
 use Rattle.weights.proofs.member_flags.MemberFlags.write_kept.Goals.{then-k-list, else-k-list}
 use Rattle.weights.proofs.member_flags.MemberFlags.write_kept.Goals as goal
 
