@@ -196,10 +196,13 @@ made kind {m} {n} {b} {c} {k} {l} {r} {o} {p} h g w d =
     subst (λ (j : ℕ). Joined j k p × (entry_held j k p ≡ x)) wide (join_joined x positive sized o p k d (omega (arith, wide, h.narrow)), join_held x positive sized o p k d)
 
 -- ---- The whole call on two encodings of one width
+pub pair_alike : (p : Pair) → (entry_in p.first.bytes.now).width ≡ (entry_in p.second.bytes.now).width
+pair_alike p = sym p.first.opens.width ∙ p.one_width ∙ p.second.opens.width
+
 pub joined_call : (kind asked : Join) (p : Pair) (a b out : Bytes) (x d e : Entry) → kind ≡ asked → p.first.bytes.now ≡ a → p.second.bytes.now ≡ b → d ≡ entry_in p.first.bytes.now
     → e ≡ entry_in p.second.bytes.now → x ≡ join_of asked d e → (writes [] (x ∷ []) (out ∷ [])).outcome ≡ join_call (join_of kind) a b out
 joined_call kind asked p a b out x d e hk ha hb hd he h =
-    let w : d.width ≡ e.width = rw (hd, he) (sym p.first.opens.width ∙ p.one_width ∙ p.second.opens.width) in
+    let w : d.width ≡ e.width = rw (hd, he) (pair_alike p) in
     let ra : read a ≡ opened (entry_in a) = rw (← ha) p.first.opens.reads in
     let rb : read b ≡ opened (entry_in b) = rw (← hb) p.second.opens.reads in
     let da : d ≡ entry_in a = hd ∙ ap entry_in ha in

@@ -1,11 +1,12 @@
 -- Two sets split in three: the rooms, and what is answered.
-use Rattle.std.specs.Prelude.{ℕ, ◌+◌, ◌*◌, ◌/◌, ◌≤◌, [], ◌∷◌}
+use Rattle.std.specs.Prelude.{ℕ, ◌+◌, ◌*◌, ◌/◌, ◌≤◌, [], ◌∷◌, Result, Ok, Err}
 use Rattle.loes.specs.Bytes.{Bytes}
+use Rattle.loes.specs.Numbers.{number_of}
+use Rattle.loes.specs.declared.refusal.Refusal.{Refusal}
+use Rattle.divide.specs.declared.Three.{Three}
 use Rattle.loes.specs.Model.{Outcome, refused, wrote, writing_all}
 use Rattle.records.specs.Numbers.{overread, overwrite}
 use Rattle.join.specs.Joining.{spare, edges_within, queue_for, large}
-use Rattle.split.specs.declared.AllWritten.{AllWritten}
-use Rattle.split.specs.declared.AllWritten.TheVariants as all_written
 
 -- the bytes of a union's marks, for encodings of at most n bytes each
 abbrev pub marks_for : ℕ → ℕ
@@ -19,6 +20,6 @@ pub record SplitRoom (x y queue marks : ℕ) : Type 0 where
   pub few_marks : marks ≤ marks_for large
 
 -- what the answer says, with the three buffers at exit
-unfoldable pub split_outcome : AllWritten → Bytes → Bytes → Bytes → Outcome
-split_outcome (all_written.Refused k) both only_first only_second = writing_all (refused k) (both ∷ only_first ∷ only_second ∷ [])
-split_outcome (all_written.Lengths n) both only_first only_second = writing_all (wrote (n.both ∷ n.only_first ∷ n.only_second ∷ [])) (both ∷ only_first ∷ only_second ∷ [])
+unfoldable pub split_outcome : Result Three Refusal → Bytes → Bytes → Bytes → Outcome
+split_outcome (Err k) both only_first only_second = writing_all (refused (number_of k)) (both ∷ only_first ∷ only_second ∷ [])
+split_outcome (Ok n) both only_first only_second = writing_all (wrote (n.both ∷ n.only_first ∷ n.only_second ∷ [])) (both ∷ only_first ∷ only_second ∷ [])

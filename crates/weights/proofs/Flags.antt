@@ -10,6 +10,7 @@ use lib.IntN.{ℤ, ◌+ℤ◌}
 use lib.ListN.{length, get_or, set, take, length-append}
 use lib.Seq.{take-set-le, take-suc-set}
 use lib.Dec.{eqb}
+use mir.Val.{bool_byte}
 use Rattle.loes.specs.Bytes.{Bytes, bit, odd, tabulate}
 use Rattle.loes.specs.Keys.{any_of}
 use Rattle.loes.proofs.Bytes.{length_tabulate}
@@ -88,6 +89,12 @@ module _ {q : Bytes} {r i f : ℕ} (e : FlagRead q r i f) where
         go : (b : Bool) → (b ≡ false → outside s ≡ false) → outside s ≡ (b && outside s)
         go true g = refl
         go false g = g refl
+
+-- a truth value as a number
+pub byte_bit : (b : Bool) → bool_byte b ≡ bit b
+unfolding bit
+byte_bit true = refl
+byte_bit false = refl
 
 -- ---- One of the first n
 pub below_more : (f : ℕ → Bool) (n : ℕ) → any_below f (suc n) ≡ (any_below f n || f n)
