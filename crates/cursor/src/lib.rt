@@ -196,7 +196,8 @@ fn move_on(o: Opened<'_>, level: usize, path: &mut [usize])
     ensures { Moved (edges_of (entry_in o.entry.bytes.now)) o.entry.encoding.width level path.old path.new }
 {
     for d in level..o.encoding.width {
-        path[d] = next_offset(o, level, d, EdgeOffset(path[d])).0;
+        let next = next_offset(o, level, d, EdgeOffset(path[d]));
+        path[d] = next.0;
     }
 }
 

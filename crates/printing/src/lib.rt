@@ -4,14 +4,12 @@
 ghost use Rattle.std.specs.Prelude.{◌+◌, ◌-◌, ◌<◌, ◌≤◌, ◌≡◌, [], ◌∷◌, length, IfOk};
 ghost use Rattle.loes.specs.Entry.{count};
 ghost use Rattle.loes.specs.Read.{rejected, read, entry_in};
-ghost use Rattle.loes.specs.Cursor as spec;
 ghost use Rattle.loes.specs.Numbers.{number_of};
-ghost use Rattle.cursor.specs.Steps.{cursor_of, stepped_of};
 ghost use Rattle.printing.specs.Text.{decimal, named, hex_digit, hex, numbers_line, member_line, refused_line, first_line, lines_from, max_line, Puts};
 ghost use Rattle.printing.specs.Pages.{Stands, PutsNext, Fills, Full};
 
 use bits::MemberIndex;
-use cursor::{Cursor, Stepped};
+use cursor::Cursor;
 use encoding::Encoding;
 use encoding::opening::Opened;
 use itoa::Buffer;
@@ -137,30 +135,19 @@ pub struct Page {
     pub length: usize,
 }
 
-// A step by value, over the step of a lent cursor.
-fn moved(o: Opened<'_>, c: Cursor, key: &mut [u8]) -> Stepped
-    ensures { stepped_of result key.new ≡ spec.advance (entry_in o.entry.bytes.now) (cursor_of c) key.old }
-{
-    let mut lent = c;
-    let answer = cursor::advance(o, &mut lent, key);
-    Stepped {
-        cursor: lent,
-        answer,
-    }
-}
-
 // One more line: a step, which is not refused, and the line of the member it went to.
 fn put_next(o: Opened<'_>, p: Page, text: &mut [u8]) -> Page
     requires { Stands (entry_in o.bytes.now) p × (p.index.0 < o.encoding.count) × (p.length + max_line ≤ length text.old) }
     ensures { PutsNext (entry_in o.entry.bytes.now) p text.old result text.new }
 {
     let mut key = [0u8; Encoding::MAX_KEY_BYTES];
-    let stepped = moved(o, p.cursor, &mut key);
-    let k = bits::bytes_for(o.encoding.width);
+    let mut cursor = p.cursor;
+    let written = cursor::advance(o, &mut cursor, &mut key).unwrap();
+    let length = put_member(text, p.length, p.index, &key[..written]);
     Page {
-        cursor: stepped.cursor,
+        cursor,
         index: MemberIndex(p.index.0 + 1),
-        length: put_member(text, p.length, p.index, &key[..k]),
+        length,
     }
 }
 
@@ -170,10 +157,7 @@ fn fill(o: Opened<'_>, from: Page, text: &mut [u8]) -> Page
     ensures { Fills (entry_in o.entry.bytes.now) from text.old result text.new × Full (entry_in o.entry.bytes.now) result text.new }
 {
     let mut p = from;
-    while p.index.0 < o.encoding.count {
-        if text.len() - p.length < LINE {
-            return p;
-        }
+    while p.index.0 < o.encoding.count && LINE <= text.len() - p.length {
         p = put_next(o, p, text);
     }
     p
