@@ -1,30 +1,7 @@
-use mathlib.Core.Path.{refl, ◌∙◌}
-use Prim.Native.Nat.{◌+◌}
+use mathlib.Core.Path.{refl}
 use native.Mathlib.Omega.{arith}
-use lib.ListN.{set, length-set}
 use Rattle.merge.proofs.Spreading.{block_ok}
 use Rattle.merge.proofs.merge_block.Goals as goal
-
-pub overflow_add-q : goal.overflow_add-q
-overflow_add-q c = record { fits = omega (arith, c.requires.j_bound) }
-
-pub bounds-q-j-4 : goal.bounds-q-j-4
-bounds-q-j-4 c = simp length-set (omega (arith, c.requires.j_bound))
-
-pub append-requires : goal.append-requires
-append-requires c = (simp length-set (omega (arith, c.requires.j_bound)), omega (arith, c.merge_eight-e.ensures.short.1))
-
-pub overflow_add-result : goal.overflow_add-result
-overflow_add-result c = record { fits = omega (arith, c.requires.overread_bound.2, c.merge_eight-e.ensures.few.0) }
-
-pub overflow_add-result-2 : goal.overflow_add-result-2
-overflow_add-result-2 c = record { fits = omega (arith, c.requires.overread_bound.2, c.merge_eight-e.ensures.few.1) }
-
-pub overflow_add-result-3 : goal.overflow_add-result-3
-overflow_add-result-3 c = record { fits = omega (arith, c.requires.j_bound, c.merge_eight-e.ensures.short.1) }
-
-pub shape_of-q : goal.shape_of-q
-shape_of-q c = c.append.ensures.size ∙ length-set (set c.args.q.now c.args.j _) (c.args.j + 1) _ ∙ length-set c.args.q.now c.args.j _
 
 pub returns : goal.returns
 returns c =

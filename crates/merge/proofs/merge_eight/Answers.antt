@@ -2,15 +2,6 @@ use native.Mathlib.Omega.{arith}
 use Rattle.merge.proofs.Spreading.{eight_ok}
 use Rattle.merge.proofs.merge_eight.Goals as goal
 
-pub push_four-k-requires : goal.push_four-k-requires
-push_four-k-requires c = (c.spread_at-x2.ensures.1, c.spread_at-y2.ensures.1)
-
-pub overflow_add-result : goal.overflow_add-result
-overflow_add-result c = record { fits = omega (arith, c.parts_at-f.ensures.first_value.1, c.parts_at-g.ensures.first_value.1) }
-
-pub overflow_add-result-2 : goal.overflow_add-result-2
-overflow_add-result-2 c = record { fits = omega (arith, c.parts_at-f.ensures.second_value.1, c.parts_at-g.ensures.second_value.1) }
-
 pub returns : goal.returns
 returns c = let a = c.parts_at-f.ensures in
     let b = c.parts_at-g.ensures in

@@ -1,8 +1,8 @@
 use mathlib.Core.Path.{◌∙◌}
-use Prim.Native.Nat.{◌/◌, ◌%◌}
+use Prim.Native.Nat.{◌/◌}
 use native.Mathlib.Omega.{arith}
 use lib.ListN.{get_or}
-use Rattle.records.proofs.Numbers.{Spliced, spliced, put_run}
+use Rattle.records.proofs.Numbers.{spliced, put_run}
 use Rattle.records.proofs.append.Goals as goal
 
 pub overflow_mul-v : goal.overflow_mul-v
