@@ -228,7 +228,7 @@ pub fn merge(a: EdgeBytes<'_>, b: EdgeBytes<'_>, tables: Option<Tables<'_>>, q: 
         tail: t,
     };
     let mut from = RecordIndex(0);
-    for d in 0..a.width {
+    for _ in 0..a.width {
         let end = at.tail;
         at = merge_level(a.bytes, b.bytes, tables, q, from, at);
         from = end;

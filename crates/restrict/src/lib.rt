@@ -156,7 +156,7 @@ pub fn mark_singles(y: usize, z: &mut [u8], i: RecordIndex, d: RecordIndex)
     z[at + 3] = fourth;
 }
 
-// ---- All records of a union
+// ---- All records of a union. What is asked of q, r and n stands in no struct: q is written in place, and is no union from the first mark on.
 
 // Record i, which is x, less the edges whose entries, from d on, are not kept.
 fn mark_record(
@@ -187,7 +187,7 @@ fn mark_bytes(tables: Tables<'_>, q: &mut [u8], r: RecordIndex, n: usize, member
 {
     let mut i = r.0;
     let mut c = r.0 + n;
-    // no `for`: a step is of sixteen records, four or one, by what is found
+    // no `for`: a step is of sixteen records, four or one, by what is found; no struct of i and c: they fall by unlike steps
     while i > 0 {
         if has_singles(q, r, RecordIndex(i), RecordIndex(c)) {
             i -= SINGLES;
@@ -209,7 +209,7 @@ fn mark_bytes(tables: Tables<'_>, q: &mut [u8], r: RecordIndex, n: usize, member
     }
 }
 
-// The byte of record i - 1, if there is one.
+// The byte of record i - 1. Where there is none it is never read, so that an Option would only be asked at each record.
 fn byte_before(q: &[u8], i: RecordIndex) -> u8
     requires { 0 < i.0 → (i.0 - 1) / 4 < length q.now }
     ensures { 0 < i.0 → result ≡ get_or q.now ((i.0 - 1) / 4) 0 }
