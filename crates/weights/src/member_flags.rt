@@ -1,6 +1,7 @@
 ghost use Rattle.weights.specs.Lists.{FlagsFit};
 
 use bits::RecordIndex;
+use restrict::Members;
 
 // The flags of the members of two sets' union, in order, from a record of a queue on: each says in which of the two its member is.
 #[derive(Clone, Copy)]
@@ -69,7 +70,7 @@ impl MemberFlags<'_> {
                 list[k] = x;
             }
             ia += usize::from(f % 2);
-            k += usize::from(f == restrict::FIRST_ONLY);
+            k += usize::from(f == Members::FirstOnly.flag());
         }
     }
 }
