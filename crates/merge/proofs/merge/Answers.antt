@@ -26,8 +26,8 @@ some {m} {b} {l} h =
 same_width : {m n b : ℕ} {l : Bytes} → m ≡ n → Holds n b l → Holds m b l
 same_width e h = rw e h
 
-pub loop-d-init : goal.loop-d-init
-loop-d-init c =
+pub loop-init : goal.loop-init
+loop-init c =
     let second = same_width c.requires.one_width c.args.b.holds in
     done_none (c.from.ensures ∙ byte_bit (ltb 0 c.args.a.bits) ∙ some c.args.a.holds) (c.from-2.ensures ∙ byte_bit (ltb 0 c.args.b.bits) ∙ some second) c.push-t.ensures
 
@@ -36,21 +36,21 @@ merge_level-at-requires c =
     let second = same_width c.requires.one_width c.args.b.holds in
     let room : QueueRoom (2 * (c.args.a.bits / 2)) (2 * (c.args.b.bits / 2)) c.push-t.new.out =
     record { queue = omega (arith, c.requires.queue_room.queue, c.push-t.ensures.size); small = omega (arith, c.requires.queue_room.small, c.push-t.ensures.size) } in
-    level_room (held_of c.args.a.holds) (held_of second) c.loop-d.invariant (omega arith) room (omega (arith, c.args.a.holds.few, second.few)) c.args.a.behind c.args.b.behind
+    level_room (held_of c.args.a.holds) (held_of second) c.loop.invariant (omega arith) room (omega (arith, c.args.a.holds.few, second.few)) c.args.a.behind c.args.b.behind
 
-pub loop-d-preserved : goal.loop-d-preserved
-loop-d-preserved c =
+pub loop-preserved : goal.loop-preserved
+loop-preserved c =
     let second = same_width c.requires.one_width c.args.b.holds in
-    done_more (held_of c.args.a.holds) (held_of second) c.loop-d.invariant (omega arith) c.merge_level-at.ensures
+    done_more (held_of c.args.a.holds) (held_of second) c.loop.invariant (omega arith) c.merge_level-at.ensures
 
 pub overflow_mul-result : goal.overflow_mul-result
 overflow_mul-result c =
     let second = same_width c.requires.one_width c.args.b.holds in
-    let few : c.loop-d.from.0 ≤ c.args.a.bits / 2 + c.args.b.bits / 2 = end_le (held_of c.args.a.holds) (held_of second) c.loop-d.invariant (omega arith) in
+    let few : c.loop.from.0 ≤ c.args.a.bits / 2 + c.args.b.bits / 2 = end_le (held_of c.args.a.holds) (held_of second) c.loop.invariant (omega arith) in
     record { fits = omega (arith, few, c.args.a.holds.few, second.few) }
 
 pub returns : goal.returns
 returns c =
     let second = same_width c.requires.one_width c.args.b.holds in
-    let all : c.loop-d.d ≡ c.args.a.width = omega arith in
-    rw (← c.requires.one_width) (merged_done c.args.a.holds second c.requires.queue_room (rw all at c.loop-d.invariant) c.push-t.ensures.size)
+    let all : c.loop.counter ≡ c.args.a.width = omega arith in
+    rw (← c.requires.one_width) (merged_done c.args.a.holds second c.requires.queue_room (rw all at c.loop.invariant) c.push-t.ensures.size)
