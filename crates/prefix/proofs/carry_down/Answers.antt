@@ -1,5 +1,5 @@
 use Prim.Native.Nat.{suc, ◌+◌, ◌-◌, ◌*◌}
-use mathlib.Core.Path.{◌≡◌, refl}
+use mathlib.Core.Path.{◌≡◌}
 use native.Mathlib.Omega.{arith}
 use Rattle.loes.specs.Entry.{edges_of}
 use Rattle.loes.specs.Read.{entry_in}
@@ -8,9 +8,6 @@ use Rattle.encoding.proofs.Opened.{opens_room}
 use Rattle.prefix.specs.Cuts.{carried}
 use Rattle.prefix.proofs.Cuts.{cut_le, cut_next}
 use Rattle.prefix.proofs.carry_down.Goals as goal
-
-pub loop-init : goal.loop-init
-loop-init c = (c.requires.2, refl)
 
 pub ones_before-n-requires : goal.ones_before-n-requires
 ones_before-n-requires c =

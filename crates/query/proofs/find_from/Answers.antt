@@ -1,12 +1,9 @@
-use mathlib.Core.Path.{refl, ◌∙◌}
+use mathlib.Core.Path.{◌∙◌}
 use Prim.Native.Nat.{◌+◌, ◌-◌, ◌*◌, ◌<◌}
 use native.Mathlib.Omega.{arith}
 use lib.ListN.{length}
 use Rattle.query.proofs.Select.{in_words, next_word, ones_mono}
 use Rattle.query.proofs.find_from.Goals as goal
-
-pub loop-at-init : goal.loop-at-init
-loop-at-init c = refl
 
 pub word_ones-ones-requires : goal.word_ones-ones-requires
 word_ones-ones-requires c = omega (arith, in_words c.args.edges.now c.loop-at.at.byte c.loop-at.at.number (omega (arith, c.loop-at.invariant, c.requires.1)))
@@ -25,6 +22,3 @@ loop-at-smaller c =
 
 pub loop-at-preserved : goal.loop-at-preserved
 loop-at-preserved c = next_word c.args.edges.now c.loop-at.at.byte c.loop-at.at.number c.word_ones-ones.result c.word_ones-ones.ensures c.if-at-ones.false ∙ c.loop-at.invariant
-
-pub returns-then-at-ones : goal.returns-then-at-ones
-returns-then-at-ones c = rw c.loop-at.invariant at c.find_in_bytes.ensures
