@@ -48,7 +48,7 @@ impl Cursor {
     }
 }
 
-// A cursor's offsets as numbers.
+// A cursor's offsets as numbers. The array's own `map` was tried here and below: it takes ten times as long.
 fn numbers_of(c: Cursor) -> [usize; Encoding::MAX_WIDTH]
     ensures { result ≡ numbers c.offsets }
 {
@@ -214,6 +214,7 @@ fn first_path(o: Opened<'_>, path: &mut [usize])
 }
 
 // ---- The step, behind the check, over lent offsets
+// A path is lent as numbers, and its state beside it by value, as C lends them: as one struct they went through memory, 7 to 11 ns of a step.
 // What a step to after leaves: it writes nothing.
 const TO_AFTER: Walked = Walked {
     answer: Ok(0),
@@ -277,6 +278,7 @@ pub fn step_right(o: Opened<'_>, state: State, path: &mut [usize], out: &mut [u8
 
 // ---- A walk in one call, behind the check
 // Goes on from a member's path while the buffer has room for a key behind byte `from`, each key behind the one before.
+// A `for` over pieces of a key's size is no plainer: the bytes are counted all the same, since they are the answer.
 fn steps_on(o: Opened<'_>, path: &mut [usize], from: usize, out: &mut [u8]) -> Walked
     requires { (spec.is_cursor_of (entry_in o.bytes.now) (cursor_with spec.at path.old) ≡ true) × (from ≤ length out.old) }
     ensures { walked_of result path.new out.new ≡ goes_on (length out.old) (entry_in o.entry.bytes.now) from out.old (cursor_with spec.at path.old) }

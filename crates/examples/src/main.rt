@@ -238,47 +238,43 @@ fn advance(rt: &impl Print, l: &[u8], from: &[u8], out: &mut [u8]) -> io::Result
     Ok(stepped.answer)
 }
 
-// What a call answers.
+// What a call answers: its second word is bytes or a number.
 fn answer(
     rt: &impl Print,
     call: Call,
-    l: &[u8],
+    set: &[u8],
     other: &[u8],
-    x: usize,
+    number: usize,
     out: &mut [u8],
 ) -> io::Result<Answer> {
     match call {
-        Call::Open => open(rt, l),
-        Call::Rank => Ok(capi::loes_rank(l, EdgeOffset(x))),
-        Call::Contains => Ok(capi::loes_contains(l, other)),
-        Call::IndexOf => Ok(capi::loes_index_of(l, other)),
-        Call::LowerBound => Ok(capi::loes_lower_bound(l, other)),
-        Call::KeyAt => Ok(capi::loes_key_at(l, MemberIndex(x), out)),
-        Call::Pack => Ok(capi::loes_pack(x, l, out)),
-        Call::Union => Ok(capi::loes_union(l, other, out)),
-        Call::Difference => Ok(capi::loes_difference(l, other, out)),
-        Call::Advance => advance(rt, l, other, out),
+        Call::Open => open(rt, set),
+        Call::Rank => Ok(capi::loes_rank(set, EdgeOffset(number))),
+        Call::Contains => Ok(capi::loes_contains(set, other)),
+        Call::IndexOf => Ok(capi::loes_index_of(set, other)),
+        Call::LowerBound => Ok(capi::loes_lower_bound(set, other)),
+        Call::KeyAt => Ok(capi::loes_key_at(set, MemberIndex(number), out)),
+        Call::Pack => Ok(capi::loes_pack(number, set, out)),
+        Call::Union => Ok(capi::loes_union(set, other, out)),
+        Call::Difference => Ok(capi::loes_difference(set, other, out)),
+        Call::Advance => advance(rt, set, other, out),
     }
 }
 
 // ---- Lines
-// Answers a line, once its bytes are read.
-fn run_call(rt: &impl Print, call: Call, line: &[u8], l: &[u8], other: &[u8]) -> io::Result<()> {
+// Runs a line's call, and puts what it answers.
+fn run_call(rt: &impl Print, call: Call, line: &[u8]) -> io::Result<()> {
+    let mut first = [0u8; WORD_BYTES];
+    let mut second = [0u8; WORD_BYTES];
     let mut room = [FILL; ROOM];
+    let set = bytes_of(word(line, 1), &mut first);
+    let other = bytes_of(word(line, 2), &mut second);
     let out = front(&mut room, number(word(line, 3)));
     put(rt, b"=")?;
-    let a = answer(rt, call, l, other, number(word(line, 2)), out)?;
+    let a = answer(rt, call, set, other, number(word(line, 2)), out)?;
     put_answer(rt, a)?;
     put_bytes(rt, out)?;
     put(rt, b"\n")
-}
-
-fn read_call(rt: &impl Print, call: Call, line: &[u8]) -> io::Result<()> {
-    let mut first = [0u8; WORD_BYTES];
-    let mut second = [0u8; WORD_BYTES];
-    let l = bytes_of(word(line, 1), &mut first);
-    let other = bytes_of(word(line, 2), &mut second);
-    run_call(rt, call, line, l, other)
 }
 
 // An empty line counts as a comment.
@@ -289,7 +285,7 @@ fn run_line(rt: &impl Print, line: &[u8]) -> io::Result<()> {
         return Ok(());
     }
     match Call::of(line) {
-        Some(call) => read_call(rt, call, line),
+        Some(call) => run_call(rt, call, line),
         None => put(rt, b"bad line\n"),
     }
 }

@@ -31,6 +31,7 @@ const LINE_FEED: u8 = b'\n';
 const SPACE: u8 = b' ';
 
 // ---- Text put into a buffer at a place, where it has room; each returns where it ends
+// A buffer and a place, and no text that grows: `Puts`, on which `PagesAreLines` stands, says of each byte of the buffer what it is.
 fn put(text: &mut [u8], at: usize, b: u8) -> usize
     requires { at < length text.old }
     ensures { Puts at (b ∷ []) text.old result text.new }
@@ -87,6 +88,7 @@ pub fn put_key(text: &mut [u8], at: usize, key: &[u8]) -> usize
 
 // ---- Lines
 // A word and a number.
+#[tactic(auto, using(crate::proofs::Lines::length_named))]
 fn put_named(text: &mut [u8], at: usize, word: &[u8], n: usize) -> usize
     requires { at + length (named word.now n) ≤ length text.old }
     ensures { Puts at (named word.now n) text.old result text.new }
@@ -96,24 +98,26 @@ fn put_named(text: &mut [u8], at: usize, word: &[u8], n: usize) -> usize
 }
 
 // The numbers of an encoding: width, members and edge bits, in the words that document 01 prints.
+#[tactic(auto, using(crate::proofs::Lines::length_numbers))]
 fn put_numbers(text: &mut [u8], at: usize, e: Encoding) -> usize
     requires { at + length (numbers_line e.width e.count e.bits) ≤ length text.old }
     ensures { Puts at (numbers_line e.width e.count e.bits) text.old result text.new }
 {
-    let mut end = put_named(text, at, b"width ", e.width);
-    end = put_named(text, end, b" tickets ", e.count);
-    end = put_named(text, end, b" edges ", e.bits);
+    let end = put_named(text, at, b"width ", e.width);
+    let end = put_named(text, end, b" tickets ", e.count);
+    let end = put_named(text, end, b" edges ", e.bits);
     put(text, end, LINE_FEED)
 }
 
 // A member: its index and its key.
+#[tactic(auto, using(crate::proofs::Lines::length_member))]
 fn put_member(text: &mut [u8], at: usize, index: MemberIndex, key: &[u8]) -> usize
     requires { at + length (member_line index.0 key.now) ≤ length text.old }
     ensures { Puts at (member_line index.0 key.now) text.old result text.new }
 {
-    let mut end = put_number(text, at, index.0);
-    end = put(text, end, SPACE);
-    end = put_key(text, end, key);
+    let end = put_number(text, at, index.0);
+    let end = put(text, end, SPACE);
+    let end = put_key(text, end, key);
     put(text, end, LINE_FEED)
 }
 
@@ -242,7 +246,7 @@ fn print(rt: &impl Print, l: &[u8]) -> io::Result<()> {
 }
 
 // ---- Reading
-// Reads until a buffer is full or the input ends, and returns how many bytes it put at the front.
+// Reads until a buffer is full or the input ends, and returns how many bytes it put at the front. How far a read comes is the reader's to say: no `for` has that step.
 pub fn read_full(reader: &mut impl Read, buf: &mut [u8]) -> io::Result<usize>
     ensures { IfOk result (λ n. n ≤ length buf.new) }
 {
