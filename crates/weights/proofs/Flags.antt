@@ -92,7 +92,6 @@ module _ {q : Bytes} {r i f : ℕ} (e : FlagRead q r i f) where
 
 -- a truth value as a number
 pub byte_bit : (b : Bool) → bool_byte b ≡ bit b
-unfolding bit
 byte_bit true = refl
 byte_bit false = refl
 

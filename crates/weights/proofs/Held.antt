@@ -37,15 +37,13 @@ unfolding front
 part_front n new l h = rw h
 
 -- ---- 14: whether a buffer is too short for an encoding of width m with k edge bits, or a list for n entries
-pub both_fit : (m k n : ℕ) (out : Bytes) (ws : Weights) → (ltb (length out) (end_of m k) || ltb (length ws) n) ≡ false → (end_of m k ≤ length out) × (n ≤ length ws)
-both_fit m k n out ws h =
-    let r = neither (ltb (length out) (end_of m k)) (ltb (length ws) n) h in
-    (no_lt (length out) (end_of m k) r.0, no_lt (length ws) n r.1)
-
 -- what it says of an entry that k edge bits hold, not too many, and of its list
-module _ (m k : ℕ) (edges : Bytes) (bits : edge_count (entry_held m k edges) ≡ k) (few : k ≤ max_edges) (l : Weights) (n : ℕ) (size : length l ≡ n) (out : Bytes) (ws : Weights) (last : Tests) (b : Bool) (told : b ≡ (ltb (length out) (end_of m k) || ltb (length ws) n)) where
+module _ (m k : ℕ) (edges : Bytes) (bits : edge_count (entry_held m k edges) ≡ k) (few : k ≤ max_edges) (l : Weights) (n : ℕ) (size : length l ≡ n) (out : Bytes) (ws : Weights) (last : Tests) where
   abbrev held : Entry
   held = entry_held m k edges
+
+  abbrev short : Bool
+  short = ltb (length out) (end_of m k) || ltb (length ws) n
 
   end : length (encode held) ≡ end_of m k
   end = held_length m k edges bits
@@ -53,19 +51,20 @@ module _ (m k : ℕ) (edges : Bytes) (bits : edge_count (entry_held m k edges) �
   fine : edge_count held ≤ max_edges
   fine = omega (arith, bits, few)
 
-  short : (ltb (length out) (length (encode held)) || ltb (length ws) (length l)) ≡ b
-  short = rw (end, size) (sym told)
+  short_is : (b : Bool) → short ≡ b → (ltb (length out) (length (encode held)) || ltb (length ws) (length l)) ≡ b
+  short_is b h = rw (end, size) h
 
-  pub told_short : b ≡ true → writes_with [] last held l out ws ≡ leaving (refused short_buffer) (out ∷ []) ws
-  told_short h = writes_short last held l out ws fine (short ∙ h)
+  pub told_short : short ≡ true → writes_with [] last held l out ws ≡ leaving (refused short_buffer) (out ∷ []) ws
+  told_short h = writes_short last held l out ws fine (short_is true h)
 
-  module _ (room : b ≡ false) where
+  module _ (room : short ≡ false) where
     pub told_last : (j : ℕ) → first_of last ≡ some j → writes_with [] last held l out ws ≡ leaving (refused j) (out ∷ []) ws
-    told_last = writes_last last held l out ws fine (short ∙ room)
+    told_last = writes_last last held l out ws fine (short_is false room)
 
     pub told_written : (s : ℕ) (new : Bytes) (list : Weights) → first_of last ≡ none → s ≡ end_of m k → new ≡ front (encode held) out → list ≡ l
         → leaving (wrote (s ∷ [])) (new ∷ []) (list ++ drop n ws) ≡ writes_with [] last held l out ws
-    told_written s new list h x y z = wrote_same (x ∙ sym end) y (ap (λ v. v ++ drop n ws) z ∙ part_front n l ws size) ∙ sym (writes_fits last held l out ws fine (short ∙ room) h)
+    told_written s new list h x y z =
+        wrote_same (x ∙ sym end) y (ap (λ v. v ++ drop n ws) z ∙ part_front n l ws size) ∙ sym (writes_fits last held l out ws fine (short_is false room) h)
 
 -- ---- Edges with flags behind them
 module _ {m k n : ℕ} {q : Bytes} (h : Flagged m k n q) where

@@ -7,7 +7,7 @@ use lib.IntN.{ℤ}
 use mir.Syntax.{w32}
 use mir.Facts.{to_z-of_z}
 use lib.Dec.{eqb}
-use mir.Val.{SFits, to_z, of_z}
+use mir.Val.{SFits, to_z, of_z, bool_byte}
 use borrow.Author.Rules.{rules}
 use Rattle.loes.specs.Bytes.{tabulate}
 use Rattle.records.specs.Records.{flags_from, first_count}
@@ -26,8 +26,9 @@ overflow_add-ia c = record { fits = omega (arith, c.args.self.fit, c.loop-i.inva
 
 pub loop-i-preserved : goal.loop-i-preserved
 loop-i-preserved c =
+    let one : c.from-k.result ≡ bool_byte (eqb c.at-f.result 1) = c.from-k.ensures ∙ ap (λ n. bool_byte (eqb c.at-f.result n)) c.flag.ensures in
     let next : c.loop-i.k + c.from-k.result ≡ length (kept_to c.args.self.queue.now c.args.self.first.0 c.args.wa.now (suc c.loop-i.i)) =
-    omega (arith, c.from-k.ensures, byte_bit (eqb c.at-f.result 1), c.loop-i.invariant.1, kept_next c.at-f.ensures c.args.wa.now) in
+    omega (arith, one, byte_bit (eqb c.at-f.result 1), c.loop-i.invariant.1, kept_next c.at-f.ensures c.args.wa.now) in
     let fits : SFits w32 c.weight_at-x.result = search rules in
     let entry : to_z w32 (of_z w32 c.weight_at-x.result) ≡ get_or c.args.wa.now (first_count (flags_from c.args.self.queue.now c.args.self.first.0 c.loop-i.i)) no_weight =
     to_z-of_z fits ∙ c.weight_at-x.ensures ∙ ap (λ j. get_or c.args.wa.now j no_weight) c.loop-i.invariant.0 in
