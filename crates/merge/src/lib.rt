@@ -177,6 +177,7 @@ fn merge_blocks(
     let end = start.tail;
     let mut at = start;
     let mut i = from.0;
+    // no `for`: a step is of eight records or of one, by what is found
     while i < end.0 {
         if has_block(RecordIndex(i), end) {
             at = merge_block(a, b, tables, q, i / 4, at);

@@ -155,7 +155,7 @@ fn put_next(o: Opened<'_>, p: Page, text: &mut [u8]) -> Page
     }
 }
 
-// More lines, while members are left and there is room for any line.
+// More lines, while members are left and there is room for any line: no `for`, since either may end first.
 fn fill(o: Opened<'_>, from: Page, text: &mut [u8]) -> Page
     requires { Stands (entry_in o.bytes.now) from × (from.length ≤ length text.old) }
     ensures { Fills (entry_in o.entry.bytes.now) from text.old result text.new × Full (entry_in o.entry.bytes.now) result text.new }
@@ -210,7 +210,7 @@ fn print_page(rt: &impl Print, o: Opened<'_>, from: Page) -> io::Result<Page>
     Ok(Page { length: 0, ..p })
 }
 
-// Prints the lines of the members, page by page, and returns the index that it came to.
+// Prints the lines of the members, page by page, and returns the index that it came to. No `for`: how many go to a page is the page's to say.
 fn print_members(rt: &impl Print, o: Opened<'_>) -> io::Result<MemberIndex>
     ensures { IfOk result (λ to. to.0 ≡ count (entry_in o.entry.bytes.now)) }
 {
