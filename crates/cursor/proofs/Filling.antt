@@ -7,6 +7,9 @@ use native.Mathlib.Omega.{arith}
 use lib.ListN.{length, drop, length-append, length-drop, length-take, drop_of_length-le}
 use lib.Dec.{eqb, ltb}
 use borrow.Rule.Slice.PartMut.{mid_of, put_mid, put_same}
+use Rattle.std.specs.Prelude.{Result, Ok, Err}
+use Rattle.std.specs.Result.{result_unwrap_or}
+use Rattle.loes.specs.declared.refusal.Refusal.{Refusal}
 use Rattle.loes.specs.Bytes.{Bytes, started, pack_bits, front}
 use Rattle.loes.specs.Keys.{Key}
 use Rattle.loes.specs.Entry.{Entry, key_bytes, Valid}
@@ -28,6 +31,11 @@ bytes_by a = bytes_in a.answer
 some_bytes : (e : Entry) → Valid e → 0 < key_bytes e.width
 unfolding key_bytes started
 some_bytes e v = omega (arith, v.positive)
+
+-- the bytes of a step's answer
+wrote_bytes : (r : Result ℕ Refusal) → result_unwrap_or r 0 ≡ bytes_in (step_answer r)
+wrote_bytes (Ok n) = refl
+wrote_bytes (Err k) = refl
 
 -- ---- A step from a right cursor
 module _ (e : Entry) (c : Cursor) (r : is_cursor_of e c ≡ true) where
@@ -144,7 +152,10 @@ module _ (e : Entry) (from : ℕ) (os₀ : List ℕ) (out₀ : Bytes) (os : List
     walk_out h = rw (lt_no _ _ fits, h) at one_more.2
 
     -- a step into the part behind, which says m bytes
-    module _ (x : Walked) (os' : List ℕ) (ys : Bytes) (told : walked_of x os' ys ≡ advance e c part) (m : ℕ) (em : m ≡ bytes_in (step_answer x.answer)) where
+    module _ (x : Walked) (os' : List ℕ) (ys : Bytes) (told : walked_of x os' ys ≡ advance e c part) (m : ℕ) (kept : m ≡ result_unwrap_or x.answer 0) where
+      em : m ≡ bytes_in (step_answer x.answer)
+      em = kept ∙ wrote_bytes x.answer
+
       went : has_next e c ≡ true → walked_of x os' ys ≡ goes_to e (next_key e c) part
       went h = told ∙ goes_on_lem e c w.right part h (omega (arith, room, ap length (rest_is out n), length-drop n out))
 
@@ -173,17 +184,20 @@ module _ (e : Entry) (from : ℕ) (os₀ : List ℕ) (out₀ : Bytes) (os : List
 
 -- ---- The first step of a walk, from any right cursor, which says m bytes
 module _ (e : Entry) (c : Cursor) (r : is_cursor_of e c ≡ true) (out : Bytes) (x : Walked) (os' : List ℕ) (out' : Bytes) (told : walked_of x os' out' ≡ advance e c out) (m : ℕ)
-    (em : m ≡ bytes_in (step_answer x.answer)) where
+    (kept : m ≡ result_unwrap_or x.answer 0) where
+  begun : m ≡ bytes_in (step_answer x.answer)
+  begun = kept ∙ wrote_bytes x.answer
+
   pub walk_none : m ≡ 0 → walked_of x os' out' ≡ advances e c out
   unfolding advances more
   walk_none z =
-      let k : bytes_in (step_answer x.answer) ≡ 0 = sym em ∙ z in
+      let k : bytes_in (step_answer x.answer) ≡ 0 = sym begun ∙ z in
       let q : walked_of x os' out' ≡ more e (walked_of x os' out') = rw k in
       q ∙ ap (more e) told
 
   module _ (z : m ≡ 0 → ⊥) where
     some : (has_next e c ≡ true) × (key_bytes e.width ≤ length out)
-    some = goes_some e c r out (λ k. z (em ∙ ap bytes_by told ∙ k))
+    some = goes_some e c r out (λ k. z (begun ∙ ap bytes_by told ∙ k))
 
     went_on : walked_of x os' out' ≡ goes_to e (next_key e c) out
     went_on = told ∙ goes_on_lem e c r out some.0 some.1
@@ -198,14 +212,14 @@ module _ (e : Entry) (c : Cursor) (r : is_cursor_of e c ≡ true) (out : Bytes) 
     walk_begun v =
         let k = pack_bits (next_key e c) in (
           ap (λ (a : Advanced). is_cursor_of e (cursor_with spec.at a.cursor.offsets)) went_on ∙ next_right e c r out v some.0,
-          omega (arith, em ∙ ap bytes_by went_on, ap (λ (a : Advanced). length a.buffer) went_on, length-append k (drop (length k) out), next_size e c r some.0),
+          omega (arith, begun ∙ ap bytes_by went_on, ap (λ (a : Advanced). length a.buffer) went_on, length-append k (drop (length k) out), next_size e c r some.0),
         )
 
     pub walk_whole : (a : Advanced) → a ≡ goes_on (length out') e m out' (cursor_with spec.at os') → a ≡ advances e c out
     unfolding advances more
     walk_whole a q =
-        let k : eqb (bytes_in (step_answer x.answer)) 0 ≡ false = eq_no _ _ (λ y. z (em ∙ y)) in
-        let g : goes_on (length out') e m out' (cursor_with spec.at os') ≡ more e (walked_of x os' out') = rw (k, stands, em) in
+        let k : eqb (bytes_in (step_answer x.answer)) 0 ≡ false = eq_no _ _ (λ y. z (begun ∙ y)) in
+        let g : goes_on (length out') e m out' (cursor_with spec.at os') ≡ more e (walked_of x os' out') = rw (k, stands, begun) in
         q ∙ g ∙ ap (more e) told
 
 -- ---- Steps and walks from a right cursor leave a right one

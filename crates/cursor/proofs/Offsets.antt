@@ -1,5 +1,5 @@
 -- A cursor's offsets as numbers, copied one by one.
-use mathlib.Core.Path.{◌≡◌, refl, sym, ap, ◌∙◌}
+use mathlib.Core.Path.{◌≡◌, refl, ap, ◌∙◌}
 use Prim.Native.Nat.{ℕ, zero, suc, ◌+◌, ◌≤◌, ◌<◌}
 use mathlib.Core.Bool.{Bool, true, false, ◌&&◌, ◌||◌, not}
 use mathlib.Core.List.{List, [], ◌∷◌}
@@ -18,7 +18,6 @@ use Rattle.loes.specs.Keys.{any_of}
 use Rattle.loes.specs.Cursor.{all_zero}
 use Rattle.loes.proofs.Lists.{get_d_map_in}
 use Rattle.bits.specs.declared.EdgeOffset.{EdgeOffset}
-use Rattle.bits.specs.contracts.EdgeOffset as O
 use Rattle.cursor.specs.declared.Cursor.{Cursor}
 use Rattle.cursor.specs.Steps.{numbers}
 use Rattle.cursor.specs.contracts.Cursor as C

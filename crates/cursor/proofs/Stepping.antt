@@ -96,29 +96,35 @@ module _ (e : Entry) (v : Valid e) (os : List ℕ) (r : is_cursor_of e (record {
     pub at_set : (m ≤ length os) × ((j : ℕ) → j < m → get_or (edges_of e) (get_or os j 0) false ≡ true)
     at_set = (omega (arith, at_long), λ j x. set_edges e v os at_long at_path j (omega (arith, em)))
 
-    module _ (t : ℕ) (q : TurnsAt (edges_of e) m os t) where
-      turned : TurnsAt (edges_of e) e.width os t
+    pub at_last : TurnsAt (edges_of e) m os 0 → (os' : List ℕ) (out : Bytes) → os' ≡ replicate (length os) 0
+        → record { answer = wrote_key 0; buffer = out; cursor = record { state = after; offsets = os' } } ≡ advance e p out
+    at_last q os' out w =
+        let n = next_none e v os at_long at_path (rw em at q) in
+        step_out e p _ out r (omega (arith, n, next_is)) (ap (λ x. record { state = after; offsets = x }) (w ∙ ap (λ k. replicate k 0) len))
+
+    module _ (level : ℕ) (q : TurnsAt (edges_of e) m os (level + 1)) where
+      turned : TurnsAt (edges_of e) e.width os (level + 1)
       turned = rw em at q
 
-      pub at_last : (os' : List ℕ) (out : Bytes) → t ≡ 0 → os' ≡ replicate (length os) 0 → record { answer = wrote_key 0; buffer = out; cursor = record { state = after; offsets = os' } } ≡ advance e p out
-      at_last os' out z w =
-          let n = next_none e v os at_long at_path (rw z at turned) in
-          step_out e p _ out r (omega (arith, n, next_is)) (ap (λ x. record { state = after; offsets = x }) (w ∙ ap (λ k. replicate k 0) len))
+      has_turn : 0 < level + 1
+      has_turn = omega arith
 
-      module _ (pos : 0 < t) where
-        pub at_short : (out : Bytes) → length out < key_bytes m → record { answer = refused short_buffer; buffer = out; cursor = p } ≡ advance e p out
-        at_short out g = step_short e p out (suc (index_in e os)) r next_is (next_some e v os at_long at_path t turned pos) (rw em at g)
+      turn_is : level + 1 - 1 ≡ level
+      turn_is = omega arith
 
-        pub at_movable : Movable b m (t - 1) os
-        at_movable = rw (em, eb) (movable e v os at_long at_path t turned pos)
+      pub at_short : (out : Bytes) → length out < key_bytes m → record { answer = refused short_buffer; buffer = out; cursor = p } ≡ advance e p out
+      at_short out g = step_short e p out (suc (index_in e os)) r next_is (next_some e v os at_long at_path (level + 1) turned has_turn) (rw em at g)
 
-        pub at_next : (os' : List ℕ) (out out' : Bytes) (n : ℕ) → Moved (edges_of e) m (t - 1) os os' → key_bytes m ≤ length out → n ≡ key_bytes m → out' ≡ front (pack_bits (key_of_path os' m)) out
-            → record { answer = wrote_key n; buffer = out'; cursor = record { state = at; offsets = os' } } ≡ advance e p out
-        unfolding cursor_at
-        at_next os' out out' n w =
-            let i = right_is e os r in
-            step_on e v p (path_of e (get_or (keys_of e) i.0 [])) os os' out out' (suc (index_in e os)) m n r next_is (next_some e v os at_long at_path t turned pos)
-            (ap (λ c. c.offsets) i.2) (omega (arith, path_size e v i.0 i.1)) (next_path e v os at_long at_path t turned pos os' (rw em at w)) em
+      pub at_movable : Movable b m level os
+      at_movable = rw (em, eb) (rw turn_is at (movable e v os at_long at_path (level + 1) turned has_turn))
+
+      pub at_next : (os' : List ℕ) (out out' : Bytes) (n : ℕ) → Moved (edges_of e) m level os os' → key_bytes m ≤ length out → n ≡ key_bytes m → out' ≡ front (pack_bits (key_of_path os' m)) out
+          → record { answer = wrote_key n; buffer = out'; cursor = record { state = at; offsets = os' } } ≡ advance e p out
+      unfolding cursor_at
+      at_next os' out out' n w =
+          let i = right_is e os r in
+          step_on e v p (path_of e (get_or (keys_of e) i.0 [])) os os' out out' (suc (index_in e os)) m n r next_is (next_some e v os at_long at_path (level + 1) turned has_turn)
+          (ap (λ c. c.offsets) i.2) (omega (arith, path_size e v i.0 i.1)) (next_path e v os at_long at_path (level + 1) turned has_turn os' (rw turn_is (rw em at w))) em
 
 -- ---- From before
 module _ (e : Entry) (v : Valid e) (os : List ℕ) (bare : os ≡ replicate 256 0) where

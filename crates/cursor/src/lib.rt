@@ -1,22 +1,21 @@
 // A cursor over an encoding's members, and the step that moves it on.
 #![tactic(auto)]
 
-ghost use Rattle.std.specs.Prelude.{ℕ, ◌+◌, ◌-◌, ◌*◌, ◌/◌, ◌<◌, ◌≤◌, ◌≡◌, true, false, [], length, get_or, drop, replicate};
+ghost use Rattle.std.specs.Prelude.{ℕ, ◌+◌, ◌-◌, ◌*◌, ◌/◌, ◌<◌, ◌≤◌, ◌≡◌, true, false, [], length, get_or, drop, replicate, MatchOption};
 ghost use Rattle.loes.specs.Limits.{max_width};
 ghost use Rattle.loes.specs.Bytes.{front};
 ghost use Rattle.loes.specs.Entry.{keys_of, edges_of};
 ghost use Rattle.loes.specs.Read.{entry_in};
 ghost use Rattle.loes.specs.Cursor as spec;
 ghost use Rattle.loes.specs.Cursor.{cursor_with, has_path};
-ghost use Rattle.bits.specs.Tables.{Tallies};
-ghost use Rattle.encoding.specs.Opened.{Opens};
 ghost use Rattle.cursor.specs.Moves.{leads_on, record_code, turns, first_edge, behind, TurnsAt, Moved, Movable};
 ghost use Rattle.cursor.specs.Steps.{state_of, numbers, cursor_of, step_answer, walked_of, advanced_of, stepped_of};
 ghost use Rattle.cursor.specs.Filling.{bytes_in, goes_on, advances};
 
 use bits::{EdgeOffset, RecordIndex};
 use encoding::Encoding;
-use loes::refusal::{BAD_CURSOR, SHORT_BUFFER};
+use encoding::opening::Opened;
+use loes::Refusal;
 
 // Where a cursor stands.
 #[derive(Clone, Copy)]
@@ -49,17 +48,13 @@ impl Cursor {
     }
 }
 
-// A cursor's offsets as numbers.
+// A cursor's offsets as numbers. The array's own `map` was tried here and below: it takes ten times as long.
 fn numbers_of(c: Cursor) -> [usize; Encoding::MAX_WIDTH]
     ensures { result ≡ numbers c.offsets }
 {
-    let offsets = c.offsets;
     let mut path = [0usize; Encoding::MAX_WIDTH];
-    let mut d: usize = 0;
-    while d < Encoding::MAX_WIDTH {
-        let o = offsets[d];
-        path[d] = o.0;
-        d += 1;
+    for (d, offset) in c.offsets.iter().enumerate() {
+        path[d] = offset.0;
     }
     path
 }
@@ -69,377 +64,287 @@ fn offsets_of(path: [usize; Encoding::MAX_WIDTH]) -> [EdgeOffset; Encoding::MAX_
     ensures { numbers result ≡ path }
 {
     let mut offsets = [EdgeOffset(0); Encoding::MAX_WIDTH];
-    let mut d: usize = 0;
-    while d < Encoding::MAX_WIDTH {
-        offsets[d] = EdgeOffset(path[d]);
-        d += 1;
+    for (d, offset) in path.iter().enumerate() {
+        offsets[d] = EdgeOffset(*offset);
     }
     offsets
 }
 
-// What a step returns: a refusal, or the bytes of the key that it wrote; 0 if it went to after.
-#[derive(Clone, Copy)]
-pub enum StepAnswer {
-    Refused(u8),
-    Wrote(usize),
-}
-
-// A step by value: the cursor that it leaves, and what it returns.
+// A step by value: the cursor that it leaves, and the bytes of the key that it wrote, 0 if it went to after.
 #[derive(Clone, Copy)]
 pub struct Stepped {
     pub cursor: Cursor,
-    pub answer: StepAnswer,
+    pub answer: Result<usize, Refusal>,
 }
 
-// A step over lent offsets: what it returns, and the state that it leaves.
+// A step over lent offsets: the same bytes, and the state that it leaves.
 #[derive(Clone, Copy)]
 pub struct Walked {
-    pub answer: StepAnswer,
+    pub answer: Result<usize, Refusal>,
     pub state: State,
 }
 
 // ---- Refusal 15: is the cursor one of this encoding?
 // Whether an offset is one of a record's two, and set.
-fn leads_on(l: &[u8], e: Encoding, r: RecordIndex, o: EdgeOffset) -> bool
-    requires { Opens l.now e }
-    ensures { result ≡ leads_on (edges_of (entry_in l.now)) r.0 o.0 }
+fn leads_on(o: Opened<'_>, r: RecordIndex, at: EdgeOffset) -> bool
+    ensures { result ≡ leads_on (edges_of (entry_in o.entry.bytes.now)) r.0 at.0 }
 {
-    if o.0 / 2 != r.0 {
-        return false;
-    }
-    if e.bits <= o.0 {
-        return false;
-    }
-    encoding::edge_at(l, e, o)
+    at.0 / 2 == r.0 && at.0 < o.encoding.bits && o.edge_at(at)
 }
 
 // Whether offsets begin with a member's path: level by level, each leads on.
-fn is_path(l: &[u8], t: &[u8], e: Encoding, path: &[usize]) -> bool
-    requires { Opens l.now e × Tallies t.now × (e.width ≤ length path.now) }
-    ensures { result ≡ has_path (entry_in l.now) path.now }
+fn is_path(o: Opened<'_>, path: &[usize]) -> bool
+    requires { o.encoding.width ≤ length path.now }
+    ensures { result ≡ has_path (entry_in o.entry.bytes.now) path.now }
 {
-    let m = e.width;
-    let mut r: usize = 0;
-    let mut d: usize = 0;
-    while d < m {
-        let o = path[d];
-        let on = leads_on(l, e, RecordIndex(r), EdgeOffset(o));
-        if !on {
+    let mut record: usize = 0;
+    for offset in &path[..o.encoding.width] {
+        if !leads_on(o, RecordIndex(record), EdgeOffset(*offset)) {
             return false;
         }
-        r = encoding::ones_before(l, t, e, EdgeOffset(o)) + 1;
-        d += 1;
+        record = o.ones_before(EdgeOffset(*offset)) + 1;
     }
     true
 }
 
-// Whether the offsets from a level on are all 0, with no branch by one of them.
-fn zeros_from(path: &[usize], from: usize) -> bool
-    requires { from ≤ length path.now }
-    ensures { result ≡ spec.all_zero (drop from path.now) }
+// Whether offsets are all 0, with no branch by one of them.
+fn are_zeros(offsets: &[usize]) -> bool
+    ensures { result ≡ spec.all_zero offsets.now }
 {
     let mut set: usize = 0;
-    let mut i = from;
-    while i < path.len() {
-        set |= path[i];
-        i += 1;
+    for offset in offsets {
+        set |= *offset;
     }
     set == 0
 }
 
 // Whether offsets are a member's path with zeros behind it.
-fn at_member(l: &[u8], t: &[u8], e: Encoding, path: &[usize]) -> bool
-    requires { Opens l.now e × Tallies t.now × (e.width ≤ length path.now) }
-    ensures { result ≡ spec.offsets_right (entry_in l.now) (cursor_with spec.at path.now) }
+fn at_member(o: Opened<'_>, path: &[usize]) -> bool
+    requires { o.encoding.width ≤ length path.now }
+    ensures { result ≡ spec.offsets_right (entry_in o.entry.bytes.now) (cursor_with spec.at path.now) }
 {
-    if is_path(l, t, e, path) {
-        return zeros_from(path, e.width);
-    }
-    false
+    is_path(o, path) && are_zeros(&path[o.encoding.width..])
 }
 
 // Whether a state and offsets are a cursor of this encoding: 256 of them, a member's path or zeros alone.
-fn is_cursor(l: &[u8], t: &[u8], e: Encoding, s: State, path: &[usize]) -> bool
-    requires { Opens l.now e × Tallies t.now }
-    ensures { result ≡ spec.is_cursor_of (entry_in l.now) (cursor_with (state_of s) path.now) }
+fn is_cursor(o: Opened<'_>, state: State, path: &[usize]) -> bool
+    ensures { result ≡ spec.is_cursor_of (entry_in o.entry.bytes.now) (cursor_with (state_of state) path.now) }
 {
     if path.len() != Encoding::MAX_WIDTH {
         return false;
     }
-    match s {
-        State::At => at_member(l, t, e, path),
-        State::Before => zeros_from(path, 0),
-        State::After => zeros_from(path, 0),
+    match state {
+        State::At => at_member(o, path),
+        State::Before | State::After => are_zeros(path),
     }
 }
 
 // ---- The next path
 // The two edges of a record as a number: 2 for the first, 1 for the second.
-fn record_at(l: &[u8], e: Encoding, r: RecordIndex) -> usize
-    requires { Opens l.now e × (2 * r.0 < e.bits) }
-    ensures { result ≡ record_code (edges_of (entry_in l.now)) r.0 }
+fn record_at(o: Opened<'_>, r: RecordIndex) -> usize
+    requires { 2 * r.0 < o.encoding.bits }
+    ensures { result ≡ record_code (edges_of (entry_in o.entry.bytes.now)) r.0 }
 {
-    let at = e.edges + r.0 / 4;
-    let z = records::record_in(l[at], r.0 % 4);
-    z as usize
+    records::record_in(o.bytes[o.encoding.edges + r.0 / 4], r.0 % 4) as usize
 }
 
 // Whether the next set bit is in the same record, from a set bit: the record has both edges, and this is the first. No branch goes by the edges.
-fn turns_on(l: &[u8], e: Encoding, o: EdgeOffset) -> bool
-    requires { Opens l.now e × (get_or (edges_of (entry_in l.now)) o.0 false ≡ true) }
-    ensures { result ≡ turns (edges_of (entry_in l.now)) o.0 }
+fn turns_on(o: Opened<'_>, at: EdgeOffset) -> bool
+    requires { get_or (edges_of (entry_in o.bytes.now)) at.0 false ≡ true }
+    ensures { result ≡ turns (edges_of (entry_in o.entry.bytes.now)) at.0 }
 {
-    let z = record_at(l, e, RecordIndex(o.0 / 2));
-    z + 4 * (o.0 % 2) == 3
+    let record = record_at(o, RecordIndex(at.0 / 2));
+    record + 4 * (at.0 % 2) == 3
 }
 
-// 1 more than the greatest level on which a path turns; 0 if it turns on none.
-fn turn_level(l: &[u8], e: Encoding, path: &[usize]) -> usize
-    requires { Opens l.now e × (e.width ≤ length path.now) × ((j : ℕ) → j < e.width → get_or (edges_of (entry_in l.now)) (get_or path.now j 0) false ≡ true) }
-    ensures { TurnsAt (edges_of (entry_in l.now)) e.width path.now result }
+// The greatest level on which a path turns, if it turns on one.
+fn turn_level(o: Opened<'_>, path: &[usize]) -> Option<usize>
+    requires { (o.encoding.width ≤ length path.now) × ((j : ℕ) → j < o.encoding.width → get_or (edges_of (entry_in o.bytes.now)) (get_or path.now j 0) false ≡ true) }
+    ensures { MatchOption result (TurnsAt (edges_of (entry_in o.entry.bytes.now)) o.entry.encoding.width path.now 0) (λ (level : ℕ). TurnsAt (edges_of (entry_in o.entry.bytes.now)) o.entry.encoding.width path.now (level + 1)) }
 {
-    let mut d = e.width;
-    while 0 < d {
-        let o = path[d - 1];
-        let turn = turns_on(l, e, EdgeOffset(o));
-        if turn {
-            return d;
+    for d in (0..o.encoding.width).rev() {
+        if turns_on(o, EdgeOffset(path[d])) {
+            return Some(d);
         }
-        d -= 1;
     }
-    0
+    None
 }
 
 // The first set bit of a record.
-fn first_edge(l: &[u8], e: Encoding, r: RecordIndex) -> EdgeOffset
-    requires { Opens l.now e × (2 * r.0 < e.bits) }
-    ensures { result.0 ≡ first_edge (edges_of (entry_in l.now)) r.0 }
+fn first_edge(o: Opened<'_>, r: RecordIndex) -> EdgeOffset
+    requires { 2 * r.0 < o.encoding.bits }
+    ensures { result.0 ≡ first_edge (edges_of (entry_in o.entry.bytes.now)) r.0 }
 {
-    let z = record_at(l, e, r);
-    EdgeOffset(2 * r.0 + (1 - z / 2))
+    let record = record_at(o, r);
+    EdgeOffset(2 * r.0 + (1 - record / 2))
 }
 
-// The offset behind q on level d of a path that turns on level t: there the next one, on greater levels the first of the next record.
-fn next_offset(l: &[u8], e: Encoding, t: usize, d: usize, q: EdgeOffset) -> EdgeOffset
-    requires { Opens l.now e × (d ≡ t → q.0 < e.bits) × ((d ≡ t → ⊥) → 2 * (q.0 / 2 + 1) < e.bits) }
-    ensures { result.0 ≡ behind (edges_of (entry_in l.now)) t d q.0 }
+// The offset behind another on level d of a path that turns on some level: there the next one, on greater levels the first of the next record.
+fn next_offset(o: Opened<'_>, level: usize, d: usize, at: EdgeOffset) -> EdgeOffset
+    requires { (d ≡ level → at.0 < o.encoding.bits) × ((d ≡ level → ⊥) → 2 * (at.0 / 2 + 1) < o.encoding.bits) }
+    ensures { result.0 ≡ behind (edges_of (entry_in o.entry.bytes.now)) level d at.0 }
 {
-    if d == t {
-        return EdgeOffset(q.0 + 1);
+    if d == level {
+        return EdgeOffset(at.0 + 1);
     }
-    first_edge(l, e, RecordIndex(q.0 / 2 + 1))
+    first_edge(o, RecordIndex(at.0 / 2 + 1))
 }
 
-// Moves a path on from its turn on level t.
-fn move_on(l: &[u8], e: Encoding, t: usize, path: &mut [usize])
-    requires { Opens l.now e × Movable e.bits e.width t path.old }
-    ensures { Moved (edges_of (entry_in l.now)) e.width t path.old path.new }
+// Moves a path on from the level on which it turns.
+fn move_on(o: Opened<'_>, level: usize, path: &mut [usize])
+    requires { Movable o.encoding.bits o.encoding.width level path.old }
+    ensures { Moved (edges_of (entry_in o.entry.bytes.now)) o.entry.encoding.width level path.old path.new }
 {
-    let m = e.width;
-    let mut d = t;
-    while d < m {
-        let q = path[d];
-        let x = next_offset(l, e, t, d, EdgeOffset(q));
-        let next = x.0;
-        path[d] = next;
-        d += 1;
+    for d in level..o.encoding.width {
+        let next = next_offset(o, level, d, EdgeOffset(path[d]));
+        path[d] = next.0;
     }
 }
 
 // The path of the first member: on each level it comes to the first record.
-fn first_path(l: &[u8], e: Encoding, path: &mut [usize])
-    requires { Opens l.now e × (0 < e.bits) × (e.width ≤ length path.old) }
-    ensures { path.new ≡ front (spec.path_of (entry_in l.now) (get_or (keys_of (entry_in l.now)) 0 [])) path.old }
+fn first_path(o: Opened<'_>, path: &mut [usize])
+    requires { (0 < o.encoding.bits) × (o.encoding.width ≤ length path.old) }
+    ensures { path.new ≡ front (spec.path_of (entry_in o.entry.bytes.now) (get_or (keys_of (entry_in o.entry.bytes.now)) 0 [])) path.old }
 {
-    let m = e.width;
-    let mut r: usize = 0;
-    let mut d: usize = 0;
-    while d < m {
-        let x = first_edge(l, e, RecordIndex(r));
-        let o = x.0;
-        path[d] = o;
-        let end = encoding::level_end(l, e, d);
-        r = end.0 / 2;
-        d += 1;
-    }
-}
-
-// All offsets 0.
-fn clear(path: &mut [usize])
-    ensures { path.new ≡ replicate (length path.old) 0 }
-{
-    let mut d: usize = 0;
-    while d < path.len() {
-        path[d] = 0;
-        d += 1;
+    let mut record: usize = 0;
+    for d in 0..o.encoding.width {
+        path[d] = first_edge(o, RecordIndex(record)).0;
+        record = o.level_end(d).0 / 2;
     }
 }
 
 // ---- The step, behind the check, over lent offsets
+// A path is lent as numbers, and its state beside it by value, as C lends them: as one struct they went through memory, 7 to 11 ns of a step.
+// What a step to after leaves: it writes nothing.
+const TO_AFTER: Walked = Walked {
+    answer: Ok(0),
+    state: State::After,
+};
+
 // From a member's path: the turn is found first, and nothing moves before the buffer is known to fit.
-fn step_at(l: &[u8], e: Encoding, path: &mut [usize], out: &mut [u8]) -> Walked
-    requires { Opens l.now e × (spec.is_cursor_of (entry_in l.now) (cursor_with spec.at path.old) ≡ true) }
-    ensures { walked_of result path.new out.new ≡ spec.advance (entry_in l.now) (cursor_with spec.at path.old) out.old }
+fn step_at(o: Opened<'_>, path: &mut [usize], out: &mut [u8]) -> Walked
+    requires { spec.is_cursor_of (entry_in o.bytes.now) (cursor_with spec.at path.old) ≡ true }
+    ensures { walked_of result path.new out.new ≡ spec.advance (entry_in o.entry.bytes.now) (cursor_with spec.at path.old) out.old }
 {
-    let level = turn_level(l, e, path);
-    if level == 0 {
-        clear(path);
-        let nothing = StepAnswer::Wrote(0);
+    let Some(level) = turn_level(o, path) else {
+        path.fill(0);
+        return TO_AFTER;
+    };
+    if out.len() < bits::bytes_for(o.encoding.width) {
         return Walked {
-            answer: nothing,
-            state: State::After,
-        };
-    }
-    let m = e.width;
-    if out.len() < bits::bytes_for(m) {
-        return Walked {
-            answer: StepAnswer::Refused(SHORT_BUFFER),
+            answer: Err(Refusal::ShortBuffer),
             state: State::At,
         };
     }
-    move_on(l, e, level - 1, path);
-    let n = query::write_key(path, m, out);
+    move_on(o, level, path);
     Walked {
-        answer: StepAnswer::Wrote(n),
+        answer: Ok(query::write_key(path, o.encoding.width, out)),
         state: State::At,
     }
 }
 
 // From before the first member.
-fn step_before(l: &[u8], e: Encoding, path: &mut [usize], out: &mut [u8]) -> Walked
-    requires { Opens l.now e × (path.old ≡ replicate max_width 0) }
-    ensures { walked_of result path.new out.new ≡ spec.advance (entry_in l.now) (cursor_with spec.before path.old) out.old }
+fn step_before(o: Opened<'_>, path: &mut [usize], out: &mut [u8]) -> Walked
+    requires { path.old ≡ replicate max_width 0 }
+    ensures { walked_of result path.new out.new ≡ spec.advance (entry_in o.entry.bytes.now) (cursor_with spec.before path.old) out.old }
 {
-    if e.bits == 0 {
-        return Walked {
-            answer: StepAnswer::Wrote(0),
-            state: State::After,
-        };
+    if o.encoding.bits == 0 {
+        return TO_AFTER;
     }
-    let m = e.width;
-    if out.len() < bits::bytes_for(m) {
+    if out.len() < bits::bytes_for(o.encoding.width) {
         return Walked {
-            answer: StepAnswer::Refused(SHORT_BUFFER),
+            answer: Err(Refusal::ShortBuffer),
             state: State::Before,
         };
     }
-    first_path(l, e, path);
-    let n = query::write_key(path, m, out);
+    first_path(o, path);
     Walked {
-        answer: StepAnswer::Wrote(n),
+        answer: Ok(query::write_key(path, o.encoding.width, out)),
         state: State::At,
     }
 }
 
 // From a right cursor, as a step that was not refused 15 leaves it: only 14 is tested.
-pub fn step_right(l: &[u8], e: Encoding, s: State, path: &mut [usize], out: &mut [u8]) -> Walked
-    requires { Opens l.now e × (spec.is_cursor_of (entry_in l.now) (cursor_with (state_of s) path.old) ≡ true) }
-    ensures { walked_of result path.new out.new ≡ spec.advance (entry_in l.now) (cursor_with (state_of s) path.old) out.old }
+pub fn step_right(o: Opened<'_>, state: State, path: &mut [usize], out: &mut [u8]) -> Walked
+    requires { spec.is_cursor_of (entry_in o.bytes.now) (cursor_with (state_of state) path.old) ≡ true }
+    ensures { walked_of result path.new out.new ≡ spec.advance (entry_in o.entry.bytes.now) (cursor_with (state_of state) path.old) out.old }
 {
-    match s {
-        State::At => step_at(l, e, path, out),
-        State::Before => step_before(l, e, path, out),
-        State::After => Walked {
-            answer: StepAnswer::Wrote(0),
-            state: State::After,
-        },
+    match state {
+        State::At => step_at(o, path, out),
+        State::Before => step_before(o, path, out),
+        State::After => TO_AFTER,
     }
 }
 
 // ---- A walk in one call, behind the check
-// The bytes that a step wrote: none if it was refused.
-fn bytes_of(answer: StepAnswer) -> usize
-    ensures { result ≡ bytes_in (step_answer answer) }
-{
-    match answer {
-        StepAnswer::Refused(_) => 0,
-        StepAnswer::Wrote(n) => n,
-    }
-}
-
 // Goes on from a member's path while the buffer has room for a key behind byte `from`, each key behind the one before.
-fn steps_on(l: &[u8], e: Encoding, path: &mut [usize], from: usize, out: &mut [u8]) -> Walked
-    requires { Opens l.now e × (spec.is_cursor_of (entry_in l.now) (cursor_with spec.at path.old) ≡ true) × (from ≤ length out.old) }
-    ensures { walked_of result path.new out.new ≡ goes_on (length out.old) (entry_in l.now) from out.old (cursor_with spec.at path.old) }
+// A `for` over pieces of a key's size is no plainer: the bytes are counted all the same, since they are the answer.
+fn steps_on(o: Opened<'_>, path: &mut [usize], from: usize, out: &mut [u8]) -> Walked
+    requires { (spec.is_cursor_of (entry_in o.bytes.now) (cursor_with spec.at path.old) ≡ true) × (from ≤ length out.old) }
+    ensures { walked_of result path.new out.new ≡ goes_on (length out.old) (entry_in o.entry.bytes.now) from out.old (cursor_with spec.at path.old) }
 {
-    let t = bits::bytes_for(e.width);
+    let size = bits::bytes_for(o.encoding.width);
     let mut at = from;
-    while t <= out.len() - at {
-        let w = step_right(l, e, State::At, path, &mut out[at..]);
-        let answer = w.answer;
-        let n = bytes_of(answer);
+    while size <= out.len() - at {
+        let walked = step_right(o, State::At, path, &mut out[at..]);
+        let n = walked.answer.unwrap_or(0);
         if n == 0 {
             return Walked {
-                answer: StepAnswer::Wrote(at),
+                answer: Ok(at),
                 state: State::After,
             };
         }
         at += n;
     }
     Walked {
-        answer: StepAnswer::Wrote(at),
+        answer: Ok(at),
         state: State::At,
     }
 }
 
 // From a right cursor: a step, and if it wrote a key, as many more as the buffer has room for.
-pub fn walk_right(l: &[u8], e: Encoding, s: State, path: &mut [usize], out: &mut [u8]) -> Walked
-    requires { Opens l.now e × (spec.is_cursor_of (entry_in l.now) (cursor_with (state_of s) path.old) ≡ true) }
-    ensures { walked_of result path.new out.new ≡ advances (entry_in l.now) (cursor_with (state_of s) path.old) out.old }
+pub fn walk_right(o: Opened<'_>, state: State, path: &mut [usize], out: &mut [u8]) -> Walked
+    requires { spec.is_cursor_of (entry_in o.bytes.now) (cursor_with (state_of state) path.old) ≡ true }
+    ensures { walked_of result path.new out.new ≡ advances (entry_in o.entry.bytes.now) (cursor_with (state_of state) path.old) out.old }
 {
-    let w = step_right(l, e, s, path, out);
-    let answer = w.answer;
-    let n = bytes_of(answer);
+    let walked = step_right(o, state, path, out);
+    let n = walked.answer.unwrap_or(0);
     if n == 0 {
-        return w;
+        return walked;
     }
-    steps_on(l, e, path, n, out)
+    steps_on(o, path, n, out)
 }
 
 // From any cursor: 15, then 14 unless it goes to after.
-pub fn step_any(
-    l: &[u8],
-    t: &[u8],
-    e: Encoding,
-    s: State,
-    path: &mut [usize],
-    out: &mut [u8],
-) -> Walked
-    requires { Opens l.now e × Tallies t.now }
-    ensures { walked_of result path.new out.new ≡ spec.advance (entry_in l.now) (cursor_with (state_of s) path.old) out.old }
+pub fn step_any(o: Opened<'_>, state: State, path: &mut [usize], out: &mut [u8]) -> Walked
+    ensures { walked_of result path.new out.new ≡ spec.advance (entry_in o.entry.bytes.now) (cursor_with (state_of state) path.old) out.old }
 {
-    if is_cursor(l, t, e, s, path) {
-        return step_right(l, e, s, path, out);
+    if is_cursor(o, state, path) {
+        return step_right(o, state, path, out);
     }
     Walked {
-        answer: StepAnswer::Refused(BAD_CURSOR),
-        state: s,
+        answer: Err(Refusal::BadCursor),
+        state,
     }
 }
 
 // The step by value.
-pub fn advanced(l: &[u8], t: &[u8], e: Encoding, c: Cursor, out: &mut [u8]) -> Stepped
-    requires { Opens l.now e × Tallies t.now }
-    ensures { stepped_of result out.new ≡ spec.advance (entry_in l.now) (cursor_of c) out.old }
+pub fn advanced(o: Opened<'_>, c: Cursor, out: &mut [u8]) -> Stepped
+    ensures { stepped_of result out.new ≡ spec.advance (entry_in o.entry.bytes.now) (cursor_of c) out.old }
 {
     let mut path = numbers_of(c);
-    let from = c.state;
-    let walked = step_any(l, t, e, from, &mut path, out);
-    let answer = walked.answer;
-    let to = walked.state;
-    let offsets = offsets_of(path);
+    let walked = step_any(o, c.state, &mut path, out);
     Stepped {
-        cursor: Cursor::of(to, offsets),
-        answer,
+        cursor: Cursor::of(walked.state, offsets_of(path)),
+        answer: walked.answer,
     }
 }
 
 // The same of a cursor that is lent to the step, for a caller who opened once (document 01: the place is lent to the step).
-pub fn advance(l: &[u8], t: &[u8], e: Encoding, cursor: &mut Cursor, out: &mut [u8]) -> StepAnswer
-    requires { Opens l.now e × Tallies t.now }
-    ensures { advanced_of result out.new cursor.new ≡ spec.advance (entry_in l.now) (cursor_of cursor.old) out.old }
+pub fn advance(o: Opened<'_>, cursor: &mut Cursor, out: &mut [u8]) -> Result<usize, Refusal>
+    ensures { advanced_of result out.new cursor.new ≡ spec.advance (entry_in o.entry.bytes.now) (cursor_of cursor.old) out.old }
 {
-    let s = advanced(l, t, e, *cursor, out);
-    *cursor = s.cursor;
-    s.answer
+    let stepped = advanced(o, *cursor, out);
+    *cursor = stepped.cursor;
+    stepped.answer
 }

@@ -1,7 +1,7 @@
 // Runs a script of calls by the compiled library: copies each line, and writes what its call answers in a line below.
 #![tactic(auto)]
 
-ghost use Rattle.std.specs.Prelude.{◌<◌, ◌≤◌, ◌≡◌, length};
+ghost use Rattle.std.specs.Prelude.{◌<◌, ◌≤◌, ◌≡◌, length, IfSome};
 
 use bits::{EdgeOffset, MemberIndex};
 use capi::{Answer, Cursor};
@@ -31,182 +31,133 @@ const CURSOR_SHOWN: usize = 5;
 // A number that has grown to this takes no further digit.
 const LARGE: usize = 1_000_000;
 
-// No form has more words, so that a line with more has none.
-const WORDS: usize = 5;
-
 const LINE_FEED: u8 = b'\n';
 
 const SPACE: u8 = b' ';
 
 const COMMENT: u8 = b'#';
 
-// ---- The pieces of a text between marks: lines, and words of a line
-// Where the piece that begins here ends: at the next mark, or where the text does.
-fn end_of(text: &[u8], from: usize, mark: u8) -> usize
-    requires { from ≤ length text.now }
-    ensures { (from ≤ result) × (result ≤ length text.now) }
-{
-    match text[from..].iter().position(|b| *b == mark) {
-        Some(k) => from + k,
-        None => text.len(),
-    }
-}
-
-// The piece that begins here.
-fn piece(text: &[u8], from: usize, mark: u8) -> &[u8]
-    requires { from ≤ length text.now }
-{
-    let end = end_of(text, from, mark);
-    &text[from..end]
-}
-
-// Where the piece behind it begins.
-fn behind(text: &[u8], from: usize, mark: u8) -> usize
-    requires { from ≤ length text.now }
-    ensures { (result ≤ length text.now) × (from < length text.now → from < result) }
-{
-    let end = end_of(text, from, mark);
-    if end < text.len() { end + 1 } else { end }
-}
-
-// Word k of a line; empty if there is none.
-fn word(line: &[u8], k: usize) -> &[u8] {
-    let mut from: usize = 0;
-    let mut i: usize = 0;
-    while i < k {
-        from = behind(line, from, SPACE);
-        i += 1;
-    }
-    piece(line, from, SPACE)
-}
-
 // ---- Digits
-// The value of a digit; 16 of what is none.
-fn value(digit: u8) -> u8
-    ensures { result ≤ 16 }
+// The value of a digit, if it is one.
+fn value(digit: u8) -> Option<u8>
+    ensures { IfSome result (λ v. v < 16) }
 {
     match digit {
-        b'0'..=b'9' => digit - b'0',
-        b'A'..=b'F' => digit - b'A' + 10,
-        _ => 16,
+        b'0'..=b'9' => Some(digit - b'0'),
+        b'A'..=b'F' => Some(digit - b'A' + 10),
+        _ => None,
     }
 }
 
 // Whether a text is digits of a base, one at least.
 fn is_digits(text: &[u8], base: u8) -> bool {
-    let mut i: usize = 0;
-    while i < text.len() {
-        if value(text[i]) >= base {
-            return false;
-        }
-        i += 1;
-    }
-    0 < text.len()
+    !text.is_empty()
+        && text
+            .iter()
+            .all(|digit| matches!(value(*digit), Some(v) if v < base))
 }
 
-fn wide(x: u8) -> usize {
-    x as usize
+// Whether a word is a number.
+fn is_number(text: &[u8]) -> bool {
+    is_digits(text, 10)
 }
 
-// A number with one more decimal digit.
-fn with_digit(n: usize, digit: u8) -> usize {
-    if n < LARGE {
-        return 10 * n + (value(digit) as usize);
-    }
-    n
+// Whether a word is bytes: pairs of digits, or - for none.
+fn is_bytes(text: &[u8]) -> bool {
+    text == b"-".as_slice() || text.len() % 2 == 0 && is_digits(text, 16)
 }
 
 // The number that a text is in decimal.
 fn number(text: &[u8]) -> usize {
     let mut n: usize = 0;
-    let mut i: usize = 0;
-    while i < text.len() {
-        n = with_digit(n, text[i]);
-        i += 1;
+    for digit in text {
+        if n < LARGE {
+            n = 10 * n + usize::from(value(*digit).unwrap_or(0));
+        }
     }
     n
 }
 
 // The byte of two hexadecimal digits.
 fn byte(high: u8, low: u8) -> u8 {
-    16 * (value(high) % 16) + value(low) % 16
-}
-
-fn lesser(x: usize, y: usize) -> usize
-    ensures { (result ≤ x) × (result ≤ y) }
-{
-    if x < y { x } else { y }
-}
-
-// The first of some bytes; 0 if there is none.
-fn first_of(bytes: &[u8]) -> usize {
-    if 0 < bytes.len() { wide(bytes[0]) } else { 0 }
+    16 * value(high).unwrap_or(0) + value(low).unwrap_or(0)
 }
 
 // The bytes that a text is in hexadecimal, put into a buffer as far as they fit.
 fn bytes_of<'a>(text: &[u8], room: &'a mut [u8]) -> &'a mut [u8] {
-    let n = lesser(text.len() / 2, room.len());
-    let mut i: usize = 0;
-    while i < n {
-        room[i] = byte(text[2 * i], text[2 * i + 1]);
-        i += 1;
+    let (pairs, _) = text.as_chunks::<2>();
+    for (place, [high, low]) in room.iter_mut().zip(pairs) {
+        *place = byte(*high, *low);
     }
-    &mut room[..n]
+    front(room, pairs.len())
 }
 
-// ---- The form of a line
-// A text's first byte; an empty line counts as a comment.
-fn letter_of(text: &[u8]) -> u8 {
-    if 0 < text.len() { text[0] } else { COMMENT }
+// The front of a buffer.
+fn front(room: &mut [u8], n: usize) -> &mut [u8] {
+    let k = n.min(room.len());
+    &mut room[..k]
 }
 
-// Whether a word is bytes: pairs of digits, or - for none.
-fn is_bytes(text: &[u8]) -> bool {
-    if text.len() % 2 == 0 {
-        return is_digits(text, 16);
-    }
-    text == b"-".as_slice()
+// ---- Calls
+// What a line calls.
+#[derive(Clone, Copy)]
+enum Call {
+    Open,
+    Rank,
+    Contains,
+    IndexOf,
+    LowerBound,
+    KeyAt,
+    Pack,
+    Union,
+    Difference,
+    Advance,
 }
 
-// Whether a word has a form: N is a number, H bytes, any other form the word itself.
-fn fits(text: &[u8], form: &[u8]) -> bool {
-    match letter_of(form) {
-        b'N' => is_digits(text, 10),
-        b'H' => is_bytes(text),
-        _ => text == form,
-    }
+// Word k of a line; empty if there is none.
+fn word(line: &[u8], k: usize) -> &[u8] {
+    line.split(|b| *b == SPACE).nth(k).unwrap_or(b"")
 }
 
-// Whether a line has a form, word by word.
-fn has_form(line: &[u8], form: &[u8]) -> bool {
-    let mut k: usize = 0;
-    while k < WORDS {
-        if !fits(word(line, k), word(form, k)) {
-            return false;
+impl Call {
+    // The call that a word names.
+    fn named(name: &[u8]) -> Option<Call> {
+        match name {
+            b"open" => Some(Call::Open),
+            b"rank" => Some(Call::Rank),
+            b"contains" => Some(Call::Contains),
+            b"index_of" => Some(Call::IndexOf),
+            b"lower_bound" => Some(Call::LowerBound),
+            b"key_at" => Some(Call::KeyAt),
+            b"pack" => Some(Call::Pack),
+            b"union" => Some(Call::Union),
+            b"difference" => Some(Call::Difference),
+            b"advance" => Some(Call::Advance),
+            _ => None,
         }
-        k += 1;
     }
-    true
-}
 
-// Whether a line has one of some forms.
-fn has_one_of(line: &[u8], forms: &[u8]) -> bool {
-    let mut from: usize = 0;
-    while from < forms.len() {
-        if has_form(line, piece(forms, from, LINE_FEED)) {
-            return true;
-        }
-        from = behind(forms, from, LINE_FEED);
+    // Whether the words behind its name are what it takes: bytes first, and the size of its buffer last, if it has one.
+    fn takes(self, line: &[u8]) -> bool {
+        let second = word(line, 2);
+        let third = word(line, 3);
+        let fits = match self {
+            Call::Open => second.is_empty() && third.is_empty(),
+            Call::Rank => is_number(second) && third.is_empty(),
+            Call::Contains | Call::IndexOf | Call::LowerBound => {
+                is_bytes(second) && third.is_empty()
+            }
+            Call::KeyAt | Call::Pack => is_number(second) && is_number(third),
+            Call::Union | Call::Difference | Call::Advance => is_bytes(second) && is_number(third),
+        };
+        fits && is_bytes(word(line, 1)) && word(line, 4).is_empty()
     }
-    false
-}
 
-// The forms of calls: no two begin with the same letter.
-fn is_call(line: &[u8]) -> bool {
-    has_one_of(
-        line,
-        b"open H\nrank H N\ncontains H H\nindex_of H H\nlower_bound H H\nkey_at H N N\npack H N N\nunion H H N\ndifference H H N\nadvance H H N",
-    )
+    // The call that a line has the form of.
+    fn of(line: &[u8]) -> Option<Call> {
+        let call = Call::named(word(line, 0))?;
+        if call.takes(line) { Some(call) } else { None }
+    }
 }
 
 // ---- Answers, each part behind a space
@@ -220,7 +171,7 @@ fn put_number(rt: &impl Print, n: usize) -> io::Result<()> {
 
 fn put_bytes(rt: &impl Print, s: &[u8]) -> io::Result<()> {
     let mut text = [SPACE; 2 * SHOWN + 1];
-    let k = lesser(s.len(), SHOWN);
+    let k = s.len().min(SHOWN);
     let n = printing::put_key(&mut text, 1, &s[..k]);
     if n > 1 {
         put(rt, &text[..n])?;
@@ -257,14 +208,15 @@ fn open(rt: &impl Print, l: &[u8]) -> io::Result<Answer> {
 
 // A cursor from the bytes of its first numbers; the others are 0.
 fn cursor_of(bytes: &[u8]) -> Cursor {
+    let mut numbers = bytes
+        .iter()
+        .take(Encoding::MAX_WIDTH)
+        .map(|byte| usize::from(*byte));
+    let state = numbers.next().unwrap_or(0);
     let mut offsets = [EdgeOffset(0); Encoding::MAX_WIDTH];
-    let n = lesser(bytes.len(), Encoding::MAX_WIDTH);
-    let mut i: usize = 1;
-    while i < n {
-        offsets[i - 1] = EdgeOffset(wide(bytes[i]));
-        i += 1;
+    for (offset, number) in offsets.iter_mut().zip(numbers) {
+        *offset = EdgeOffset(number);
     }
-    let state = first_of(bytes);
     Cursor { state, offsets }
 }
 
@@ -272,100 +224,76 @@ fn cursor_of(bytes: &[u8]) -> Cursor {
 fn bytes_in(cursor: Cursor) -> [u8; CURSOR_SHOWN]
     ensures { 5 ≡ length result }
 {
-    let offsets = cursor.offsets;
     let mut bytes = [(cursor.state % 256) as u8; CURSOR_SHOWN];
-    let mut i: usize = 1;
-    while i < CURSOR_SHOWN {
-        let o = offsets[i - 1];
-        bytes[i] = (o.0 % 256) as u8;
-        i += 1;
+    for (byte, offset) in bytes[1..].iter_mut().zip(cursor.offsets.iter()) {
+        *byte = (offset.0 % 256) as u8;
     }
     bytes
 }
 
 // The cursor after the step is put, the bytes written are the answer; a step to after has none.
 fn advance(rt: &impl Print, l: &[u8], from: &[u8], out: &mut [u8]) -> io::Result<Answer> {
-    let s = capi::advanced(l, cursor_of(from), out);
-    let to = s.cursor;
-    let shown = bytes_in(to);
-    put_bytes(rt, &shown)?;
-    Ok(s.answer)
+    let stepped = capi::advanced(l, cursor_of(from), out);
+    put_bytes(rt, &bytes_in(stepped.cursor))?;
+    Ok(stepped.answer)
 }
 
-// The call that begins with a letter.
+// What a call answers: its second word is bytes or a number.
 fn answer(
     rt: &impl Print,
-    letter: u8,
-    l: &[u8],
+    call: Call,
+    set: &[u8],
     other: &[u8],
-    x: usize,
+    number: usize,
     out: &mut [u8],
 ) -> io::Result<Answer> {
-    match letter {
-        b'o' => open(rt, l),
-        b'r' => Ok(capi::loes_rank(l, EdgeOffset(x))),
-        b'c' => Ok(capi::loes_contains(l, other)),
-        b'i' => Ok(capi::loes_index_of(l, other)),
-        b'l' => Ok(capi::loes_lower_bound(l, other)),
-        b'k' => Ok(capi::loes_key_at(l, MemberIndex(x), out)),
-        b'p' => Ok(capi::loes_pack(x, l, out)),
-        b'u' => Ok(capi::loes_union(l, other, out)),
-        b'd' => Ok(capi::loes_difference(l, other, out)),
-        _ => advance(rt, l, other, out),
+    match call {
+        Call::Open => open(rt, set),
+        Call::Rank => Ok(capi::loes_rank(set, EdgeOffset(number))),
+        Call::Contains => Ok(capi::loes_contains(set, other)),
+        Call::IndexOf => Ok(capi::loes_index_of(set, other)),
+        Call::LowerBound => Ok(capi::loes_lower_bound(set, other)),
+        Call::KeyAt => Ok(capi::loes_key_at(set, MemberIndex(number), out)),
+        Call::Pack => Ok(capi::loes_pack(number, set, out)),
+        Call::Union => Ok(capi::loes_union(set, other, out)),
+        Call::Difference => Ok(capi::loes_difference(set, other, out)),
+        Call::Advance => advance(rt, set, other, out),
     }
 }
 
 // ---- Lines
-// An output buffer.
-fn filled() -> [u8; ROOM]
-    ensures { 2048 ≡ length result }
-{
-    [FILL; ROOM]
-}
-
-// The front of a buffer.
-fn front(room: &mut [u8], n: usize) -> &mut [u8] {
-    let k = lesser(n, room.len());
-    &mut room[..k]
-}
-
-// Answers a line, once its bytes are read.
-fn run_call(rt: &impl Print, line: &[u8], l: &[u8], other: &[u8]) -> io::Result<()> {
-    let mut room = filled();
+// Runs a line's call, and puts what it answers.
+fn run_call(rt: &impl Print, call: Call, line: &[u8]) -> io::Result<()> {
+    let mut first = [0u8; WORD_BYTES];
+    let mut second = [0u8; WORD_BYTES];
+    let mut room = [FILL; ROOM];
+    let set = bytes_of(word(line, 1), &mut first);
+    let other = bytes_of(word(line, 2), &mut second);
     let out = front(&mut room, number(word(line, 3)));
     put(rt, b"=")?;
-    let a = answer(rt, letter_of(line), l, other, number(word(line, 2)), out)?;
+    let a = answer(rt, call, set, other, number(word(line, 2)), out)?;
     put_answer(rt, a)?;
     put_bytes(rt, out)?;
     put(rt, b"\n")
 }
 
-fn read_call(rt: &impl Print, line: &[u8]) -> io::Result<()> {
-    let mut first = [0u8; WORD_BYTES];
-    let mut second = [0u8; WORD_BYTES];
-    let l = bytes_of(word(line, 1), &mut first);
-    let other = bytes_of(word(line, 2), &mut second);
-    run_call(rt, line, l, other)
-}
-
+// An empty line counts as a comment.
 fn run_line(rt: &impl Print, line: &[u8]) -> io::Result<()> {
     put(rt, line)?;
     put(rt, b"\n")?;
-    if letter_of(line) == COMMENT {
+    if matches!(line, [] | [COMMENT, ..]) {
         return Ok(());
     }
-    if is_call(line) {
-        read_call(rt, line)
-    } else {
-        put(rt, b"bad line\n")
+    match Call::of(line) {
+        Some(call) => run_call(rt, call, line),
+        None => put(rt, b"bad line\n"),
     }
 }
 
+// A line feed ends a line, also the last, which may have none.
 fn run(rt: &impl Print, script: &[u8]) -> io::Result<()> {
-    let mut from: usize = 0;
-    while from < script.len() {
-        run_line(rt, piece(script, from, LINE_FEED))?;
-        from = behind(script, from, LINE_FEED);
+    for line in script.split_inclusive(|b| *b == LINE_FEED) {
+        run_line(rt, line.strip_suffix(b"\n").unwrap_or(line))?;
     }
     Ok(())
 }

@@ -4,6 +4,9 @@ use Prim.Native.Nat.{ℕ, ◌+◌, ◌^◌, ◌≤◌, ◌<◌}
 use native.Mathlib.Omega.{arith}
 use lib.ListN.{length, length-append}
 use Rattle.loes.specs.Bytes.{Bytes}
+use Rattle.loes.specs.Numbers.{number_of}
+use Rattle.loes.specs.declared.refusal.Refusal.{Refusal}
+use Rattle.loes.specs.declared.refusal.Refusal.TheVariants.{Truncated, WrongTag, WrongLength, BadWidth, TooLarge, TrailingBytes, NotAnEncoding, BadKey, OutOfRange, RaggedBatch, UnusedBitSet, Descending, TwoWidths, ShortBuffer, BadCursor, WrongList, Overflow}
 use Rattle.printing.specs.Text.{decimal, hex, width_word, count_word, edges_word, refused_word, named, numbers_line, member_line, refused_line, max_line}
 use Rattle.printing.proofs.Digits.{decimal_most, length_hex}
 
@@ -37,3 +40,25 @@ member_most i key x l = omega (arith, length_member i key, digits_most i x, leng
 
 pub refused_most : (k : ℕ) → k < 2 ^ 64 → length (refused_line k) ≤ max_line
 refused_most k x = omega (arith, length_refused k, length_named refused_word k, digits_most k x)
+
+-- a refusal's number is small
+pub refusal_small : (r : Refusal) → number_of r < 2 ^ 64
+refusal_small r = elim r as (λ k. number_of k < 2 ^ 64) [
+  | Truncated ↦ omega arith
+  | WrongTag ↦ omega arith
+  | WrongLength ↦ omega arith
+  | BadWidth ↦ omega arith
+  | TooLarge ↦ omega arith
+  | TrailingBytes ↦ omega arith
+  | NotAnEncoding ↦ omega arith
+  | BadKey ↦ omega arith
+  | OutOfRange ↦ omega arith
+  | RaggedBatch ↦ omega arith
+  | UnusedBitSet ↦ omega arith
+  | Descending ↦ omega arith
+  | TwoWidths ↦ omega arith
+  | ShortBuffer ↦ omega arith
+  | BadCursor ↦ omega arith
+  | WrongList ↦ omega arith
+  | Overflow ↦ omega arith
+]

@@ -15,8 +15,10 @@ use Rattle.loes.proofs.Members.{key_bytes_lem}
 use Rattle.loes.proofs.Cursors.{cursor_at, right_at, right_none, next_at, advance_on}
 use Rattle.encoding.specs.declared.Encoding.{Encoding}
 use Rattle.encoding.specs.Opened.{Opens}
-use Rattle.cursor.specs.declared.Stepped.{Stepped}
-use Rattle.cursor.specs.Steps.{cursor_of, stepped_of}
+use Rattle.std.specs.Prelude.{Result, Ok, Err}
+use Rattle.loes.specs.declared.refusal.Refusal.{Refusal}
+use Rattle.cursor.specs.declared.Cursor.{Cursor}
+use Rattle.cursor.specs.Steps.{cursor_of, step_answer, advanced_of}
 use Rattle.printing.specs.declared.Page.{Page}
 use Rattle.printing.specs.Text.{member_line, key_bytes_at, lines_from, lines_of, numbers_line, first_line, max_line, Puts}
 use Rattle.printing.specs.Pages.{Stands, PutsNext, Fills, Full, Printed, over, page, PagesAreLines}
@@ -28,12 +30,20 @@ key_most e v = omega (arith, v.narrow)
 
 -- ---- A step from where a page stands, with room for a key: it is not refused
 module _ (e : Entry) (v : Valid e) (p : Page) (s : Stands e p) (lt : p.index.0 < count e) (out : Bytes) (room : length out ≡ 32)
-    (x : Stepped) (out' : Bytes) (told : stepped_of x out' ≡ advance e (cursor_of p.cursor) out) where
+    (r : Result ℕ Refusal) (after : Cursor) (out' : Bytes) (told : advanced_of r out' after ≡ advance e (cursor_of p.cursor) out) where
   abbrev i : ℕ
   i = p.index.0
 
-  went : stepped_of x out' ≡ record { answer = wrote_key (key_bytes e.width); buffer = front (pack_bits (get_or (keys_of e) i [])) out; cursor = cursor_at e i }
+  went : advanced_of r out' after ≡ record { answer = wrote_key (key_bytes e.width); buffer = front (pack_bits (get_or (keys_of e) i [])) out; cursor = cursor_at e i }
   went = told ∙ advance_on e (cursor_of p.cursor) out i s.right s.next lt (omega (arith, key_most e v, room))
+
+  -- what it returns
+  pub next_wrote : r ≡ Ok (key_bytes e.width)
+  next_wrote = go r (ap (λ (a : Advanced). a.answer) went)
+    where
+      go : (r : Result ℕ Refusal) → step_answer r ≡ wrote_key (key_bytes e.width) → r ≡ Ok (key_bytes e.width)
+      go (Ok n) h = cc
+      go (Err k) h = cc
 
   -- the key that it wrote
   pub next_key : take (key_bytes e.width) out' ≡ key_bytes_at e i
@@ -43,10 +53,10 @@ module _ (e : Entry) (v : Valid e) (p : Page) (s : Stands e p) (lt : p.index.0 <
       ap (λ (a : Advanced). take (key_bytes e.width) a.buffer) went ∙ take_at k (drop (length k) out) (key_bytes e.width) (key_bytes_lem e i lt)
 
   -- where it stands
-  pub next_stands : (r : Page) → r.cursor ≡ x.cursor → r.index.0 ≡ i + 1 → Stands e r
-  next_stands r c n =
-      let at : cursor_of r.cursor ≡ cursor_at e i = ap cursor_of c ∙ ap (λ (a : Advanced). a.cursor) went in
-      let z : suc i ≡ r.index.0 = omega arith in
+  pub next_stands : (q : Page) → q.cursor ≡ after → q.index.0 ≡ i + 1 → Stands e q
+  next_stands q c n =
+      let at : cursor_of q.cursor ≡ cursor_at e i = ap cursor_of c ∙ ap (λ (a : Advanced). a.cursor) went in
+      let z : suc i ≡ q.index.0 = omega arith in
       record { right = ap (is_cursor_of e) at ∙ right_at e i v.narrow lt; next = ap (next_index e) at ∙ next_at e i lt ∙ z; within = omega arith }
 
 -- before the first member

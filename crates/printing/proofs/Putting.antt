@@ -1,11 +1,11 @@
 -- Text put into a buffer, one behind the other.
 use mathlib.Core.Path.{◌≡◌, refl, sym, ap, ap₂, ◌∙◌}
-use Prim.Native.Nat.{ℕ, suc, ◌+◌, ◌≤◌, ◌<◌}
+use Prim.Native.Nat.{◌-◌, ℕ, suc, ◌+◌, ◌≤◌, ◌<◌}
 use mathlib.Core.List.{[], ◌∷◌, ◌++◌, append_assoc, append-nil}
 use native.Mathlib.Omega.{arith}
-use native.Mathlib.Numerals.{add-one}
-use lib.ListN.{length, take, drop, set, get_or, length-append, length-drop, take-append-drop}
-use lib.Seq.{length-take-le, take-suc, set_split, append_snoc, take_at, drop-append-add, drop-drop}
+use borrow.Rule.Slice.PartMut.{put_mid}
+use lib.ListN.{length, take, drop, set, length-append, length-drop, take-append-drop}
+use lib.Seq.{length-take-le, set_split, append_snoc, take_at, drop-append-add, drop-drop}
 use Rattle.loes.specs.Bytes.{Bytes}
 use Rattle.printing.specs.Text.{with_text, Puts}
 
@@ -22,6 +22,17 @@ unfolding with_text
 puts_byte at b d h =
     let z : at + 1 ≡ suc at = omega arith in
     record { room = omega arith; ends = refl; text = set_split d at b h ∙ sym (append_snoc (take at d) b (drop (suc at) d)) ∙ ap (λ n. take at d ++ b ∷ [] ++ drop n d) (sym z) }
+
+-- a text was copied there
+pub puts_text : (at : ℕ) (s d : Bytes) → at + length s ≤ length d → Puts at s d (at + length s) (put_mid at (at + length s - at) d s)
+unfolding with_text
+puts_text at s d h =
+    let k : at + length s - at ≡ length s = omega arith in
+    record {
+      room = h;
+      ends = refl;
+      text = rw (k, drop-drop (length s) at d) (sym (append_assoc (take at d) s (drop (at + length s) d)));
+    }
 
 module _ {at m : ℕ} {s d d1 : Bytes} (p : Puts at s d m d1) where
   abbrev head : Bytes
@@ -54,13 +65,6 @@ module _ {at m : ℕ} {s d d1 : Bytes} (p : Puts at s d m d1) where
         ends = q.ends ∙ end;
         text = q.text ∙ ap₂ (λ x y. x ++ t ++ y) before (behind ∙ ap (λ n. drop n d) end) ∙ ap (λ x. x ++ drop (at + length (s ++ t)) d) (append_assoc (take at d) s t);
       }
-
--- a text is copied byte by byte: one more
-pub puts_more : (at i : ℕ) (s d d1 : Bytes) → at + length s ≤ length d → i < length s → Puts at (take i s) d (at + i) d1 → Puts at (take (i + 1) s) d (at + (i + 1)) (set d1 (at + i) (get_or s i 0))
-puts_more at i s d d1 room h p =
-    let z : at + i + 1 ≡ at + (i + 1) = omega arith in
-    let t : take (i + 1) s ≡ take i s ++ get_or s i 0 ∷ [] = rw (add-one, take-suc s i 0) in
-    rw (t, ← z) (puts_then p (puts_byte (at + i) (get_or s i 0) d1 (omega (arith, puts_length p))))
 
 -- what was put at the front
 pub puts_front : {s d : Bytes} {r : ℕ} {d1 : Bytes} → Puts 0 s d r d1 → take r d1 ≡ s

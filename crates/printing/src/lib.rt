@@ -4,17 +4,16 @@
 ghost use Rattle.std.specs.Prelude.{◌+◌, ◌-◌, ◌<◌, ◌≤◌, ◌≡◌, [], ◌∷◌, length, IfOk};
 ghost use Rattle.loes.specs.Entry.{count};
 ghost use Rattle.loes.specs.Read.{rejected, read, entry_in};
-ghost use Rattle.loes.specs.Cursor as spec;
-ghost use Rattle.bits.specs.Tables.{Tallies};
-ghost use Rattle.encoding.specs.Opened.{Opens};
-ghost use Rattle.cursor.specs.Steps.{cursor_of, stepped_of};
+ghost use Rattle.loes.specs.Numbers.{number_of};
 ghost use Rattle.printing.specs.Text.{decimal, named, hex_digit, hex, numbers_line, member_line, refused_line, first_line, lines_from, max_line, Puts};
 ghost use Rattle.printing.specs.Pages.{Stands, PutsNext, Fills, Full};
 
 use bits::MemberIndex;
-use cursor::{Cursor, Stepped};
-use encoding::{Checked, Encoding};
+use cursor::Cursor;
+use encoding::Encoding;
+use encoding::opening::Opened;
 use itoa::Buffer;
+use loes::Refusal;
 use std::io;
 use std::io::Read;
 
@@ -32,6 +31,7 @@ const LINE_FEED: u8 = b'\n';
 const SPACE: u8 = b' ';
 
 // ---- Text put into a buffer at a place, where it has room; each returns where it ends
+// A buffer and a place, and no text that grows: `Puts`, on which `PagesAreLines` stands, says of each byte of the buffer what it is.
 fn put(text: &mut [u8], at: usize, b: u8) -> usize
     requires { at < length text.old }
     ensures { Puts at (b ∷ []) text.old result text.new }
@@ -44,12 +44,9 @@ fn put_text(text: &mut [u8], at: usize, s: &[u8]) -> usize
     requires { at + length s.now ≤ length text.old }
     ensures { Puts at s.now text.old result text.new }
 {
-    let mut i: usize = 0;
-    while i < s.len() {
-        text[at + i] = s[i];
-        i += 1;
-    }
-    at + i
+    let end = at + s.len();
+    text[at..end].copy_from_slice(s);
+    end
 }
 
 fn put_number(text: &mut [u8], at: usize, n: usize) -> usize
@@ -83,16 +80,15 @@ pub fn put_key(text: &mut [u8], at: usize, key: &[u8]) -> usize
     ensures { Puts at (hex key.now) text.old result text.new }
 {
     let mut end = at;
-    let mut i: usize = 0;
-    while i < key.len() {
-        end = put_byte(text, end, key[i]);
-        i += 1;
+    for byte in key {
+        end = put_byte(text, end, *byte);
     }
     end
 }
 
 // ---- Lines
 // A word and a number.
+#[tactic(auto, using(crate::proofs::Lines::length_named))]
 fn put_named(text: &mut [u8], at: usize, word: &[u8], n: usize) -> usize
     requires { at + length (named word.now n) ≤ length text.old }
     ensures { Puts at (named word.now n) text.old result text.new }
@@ -102,33 +98,35 @@ fn put_named(text: &mut [u8], at: usize, word: &[u8], n: usize) -> usize
 }
 
 // The numbers of an encoding: width, members and edge bits, in the words that document 01 prints.
+#[tactic(auto, using(crate::proofs::Lines::length_numbers))]
 fn put_numbers(text: &mut [u8], at: usize, e: Encoding) -> usize
     requires { at + length (numbers_line e.width e.count e.bits) ≤ length text.old }
     ensures { Puts at (numbers_line e.width e.count e.bits) text.old result text.new }
 {
-    let mut end = put_named(text, at, b"width ", e.width);
-    end = put_named(text, end, b" tickets ", e.count);
-    end = put_named(text, end, b" edges ", e.bits);
+    let end = put_named(text, at, b"width ", e.width);
+    let end = put_named(text, end, b" tickets ", e.count);
+    let end = put_named(text, end, b" edges ", e.bits);
     put(text, end, LINE_FEED)
 }
 
 // A member: its index and its key.
+#[tactic(auto, using(crate::proofs::Lines::length_member))]
 fn put_member(text: &mut [u8], at: usize, index: MemberIndex, key: &[u8]) -> usize
     requires { at + length (member_line index.0 key.now) ≤ length text.old }
     ensures { Puts at (member_line index.0 key.now) text.old result text.new }
 {
-    let mut end = put_number(text, at, index.0);
-    end = put(text, end, SPACE);
-    end = put_key(text, end, key);
+    let end = put_number(text, at, index.0);
+    let end = put(text, end, SPACE);
+    let end = put_key(text, end, key);
     put(text, end, LINE_FEED)
 }
 
 // A refusal: its number.
-fn put_refused(text: &mut [u8], at: usize, k: u8) -> usize
-    requires { at + length (refused_line k) ≤ length text.old }
-    ensures { Puts at (refused_line k) text.old result text.new }
+fn put_refused(text: &mut [u8], at: usize, refusal: Refusal) -> usize
+    requires { at + length (refused_line (number_of refusal)) ≤ length text.old }
+    ensures { Puts at (refused_line (number_of refusal)) text.old result text.new }
 {
-    let end = put_named(text, at, b"refused ", k as usize);
+    let end = put_named(text, at, b"refused ", usize::from(refusal.number()));
     put(text, end, LINE_FEED)
 }
 
@@ -141,49 +139,30 @@ pub struct Page {
     pub length: usize,
 }
 
-// A step by value, over the step of a lent cursor.
-fn moved(l: &[u8], t: &[u8], e: Encoding, c: Cursor, key: &mut [u8]) -> Stepped
-    requires { Opens l.now e × Tallies t.now }
-    ensures { stepped_of result key.new ≡ spec.advance (entry_in l.now) (cursor_of c) key.old }
-{
-    let mut lent = c;
-    let answer = cursor::advance(l, t, e, &mut lent, key);
-    Stepped {
-        cursor: lent,
-        answer,
-    }
-}
-
 // One more line: a step, which is not refused, and the line of the member it went to.
-fn put_next(l: &[u8], t: &[u8], e: Encoding, p: Page, text: &mut [u8]) -> Page
-    requires { Opens l.now e × Tallies t.now × Stands (entry_in l.now) p × (p.index.0 < e.count) × (p.length + max_line ≤ length text.old) }
-    ensures { PutsNext (entry_in l.now) p text.old result text.new }
+fn put_next(o: Opened<'_>, p: Page, text: &mut [u8]) -> Page
+    requires { Stands (entry_in o.bytes.now) p × (p.index.0 < o.encoding.count) × (p.length + max_line ≤ length text.old) }
+    ensures { PutsNext (entry_in o.entry.bytes.now) p text.old result text.new }
 {
     let mut key = [0u8; Encoding::MAX_KEY_BYTES];
-    let from = p.cursor;
-    let stepped = moved(l, t, e, from, &mut key);
-    let cursor = stepped.cursor;
-    let index = p.index;
-    let k = bits::bytes_for(e.width);
-    let length = put_member(text, p.length, index, &key[..k]);
+    let mut cursor = p.cursor;
+    let written = cursor::advance(o, &mut cursor, &mut key).unwrap();
+    let length = put_member(text, p.length, p.index, &key[..written]);
     Page {
         cursor,
-        index: MemberIndex(index.0 + 1),
+        index: MemberIndex(p.index.0 + 1),
         length,
     }
 }
 
-// More lines, while members are left and there is room for any line.
-fn fill(l: &[u8], t: &[u8], e: Encoding, from: Page, text: &mut [u8]) -> Page
-    requires { Opens l.now e × Tallies t.now × Stands (entry_in l.now) from × (from.length ≤ length text.old) }
-    ensures { Fills (entry_in l.now) from text.old result text.new × Full (entry_in l.now) result text.new }
+// More lines, while members are left and there is room for any line: no `for`, since either may end first.
+fn fill(o: Opened<'_>, from: Page, text: &mut [u8]) -> Page
+    requires { Stands (entry_in o.bytes.now) from × (from.length ≤ length text.old) }
+    ensures { Fills (entry_in o.entry.bytes.now) from text.old result text.new × Full (entry_in o.entry.bytes.now) result text.new }
 {
     let mut p = from;
-    while p.index.0 < e.count {
-        if text.len() - p.length < LINE {
-            return p;
-        }
-        p = put_next(l, t, e, p, text);
+    while p.index.0 < o.encoding.count && LINE <= text.len() - p.length {
+        p = put_next(o, p, text);
     }
     p
 }
@@ -208,73 +187,66 @@ fn write_members(
     rt.write_all(text)
 }
 
-fn write_refused(rt: &impl Print, l: &[u8], k: u8, text: &[u8]) -> io::Result<()>
-    requires { (read l.now ≡ rejected k) × (text.now ≡ refused_line k) }
+fn write_refused(rt: &impl Print, l: &[u8], refusal: Refusal, text: &[u8]) -> io::Result<()>
+    requires { (read l.now ≡ rejected (number_of refusal)) × (text.now ≡ refused_line (number_of refusal)) }
 {
     rt.write_all(text)
 }
 
-fn print_numbers(rt: &impl Print, l: &[u8], e: Encoding) -> io::Result<()>
-    requires { Opens l.now e }
-{
+fn print_numbers(rt: &impl Print, o: Opened<'_>) -> io::Result<()> {
     let mut text = [0u8; LINE];
-    let n = put_numbers(&mut text, 0, e);
-    write_numbers(rt, l, &text[..n])
+    let n = put_numbers(&mut text, 0, o.encoding);
+    write_numbers(rt, o.bytes, &text[..n])
 }
 
 // Prints a page of lines, and returns one that goes on from it.
-fn print_page(rt: &impl Print, l: &[u8], t: &[u8], e: Encoding, from: Page) -> io::Result<Page>
-    requires { Opens l.now e × Tallies t.now × Stands (entry_in l.now) from × (from.length ≡ 0) × (from.index.0 < e.count) }
-    ensures { IfOk result (λ next. Stands (entry_in l.now) next × (next.length ≡ 0) × (from.index.0 < next.index.0)) }
+fn print_page(rt: &impl Print, o: Opened<'_>, from: Page) -> io::Result<Page>
+    requires { Stands (entry_in o.bytes.now) from × (from.length ≡ 0) × (from.index.0 < o.encoding.count) }
+    ensures { IfOk result (λ next. Stands (entry_in o.entry.bytes.now) next × (next.length ≡ 0) × (from.index.0 < next.index.0)) }
 {
     let mut text = [0u8; PAGE];
-    let p = fill(l, t, e, from, &mut text);
-    let n = p.length;
-    write_members(rt, l, from.index, p.index, &text[..n])?;
-    let mut next = p;
-    next.length = 0;
-    Ok(next)
+    let p = fill(o, from, &mut text);
+    write_members(rt, o.bytes, from.index, p.index, &text[..p.length])?;
+    Ok(Page { length: 0, ..p })
 }
 
-// Prints the lines of the members, page by page, and returns the index that it came to.
-fn print_members(rt: &impl Print, l: &[u8], t: &[u8], e: Encoding) -> io::Result<MemberIndex>
-    requires { Opens l.now e × Tallies t.now }
-    ensures { IfOk result (λ to. to.0 ≡ count (entry_in l.now)) }
+// Prints the lines of the members, page by page, and returns the index that it came to. No `for`: how many go to a page is the page's to say.
+fn print_members(rt: &impl Print, o: Opened<'_>) -> io::Result<MemberIndex>
+    ensures { IfOk result (λ to. to.0 ≡ count (entry_in o.entry.bytes.now)) }
 {
     let mut p = Page {
         cursor: Cursor::before(),
         index: MemberIndex(0),
         length: 0,
     };
-    while p.index.0 < e.count {
-        p = print_page(rt, l, t, e, p)?;
+    while p.index.0 < o.encoding.count {
+        p = print_page(rt, o, p)?;
     }
     Ok(p.index)
 }
 
-fn print_refused(rt: &impl Print, l: &[u8], k: u8) -> io::Result<()>
-    requires { read l.now ≡ rejected k }
+fn print_refused(rt: &impl Print, l: &[u8], refusal: Refusal) -> io::Result<()>
+    requires { read l.now ≡ rejected (number_of refusal) }
 {
     let mut text = [0u8; LINE];
-    let n = put_refused(&mut text, 0, k);
-    write_refused(rt, l, k, &text[..n])
+    let n = put_refused(&mut text, 0, refusal);
+    write_refused(rt, l, refusal, &text[..n])
 }
 
 // Prints the encoding that bytes are, or their refusal.
 fn print(rt: &impl Print, l: &[u8]) -> io::Result<()> {
-    let t = bits::tallies();
-    match encoding::check(l, &t) {
-        Checked::Refused(k) => print_refused(rt, l, k),
-        Checked::Opened(e) => {
-            print_numbers(rt, l, e)?;
-            print_members(rt, l, &t, e)?;
+    match encoding::open(l) {
+        Err(refusal) => print_refused(rt, l, refusal),
+        Ok(o) => {
+            print_numbers(rt, o)?;
+            print_members(rt, o)?;
             Ok(())
         }
     }
 }
 
 // ---- Reading
-// Reads until a buffer is full or the input ends, and returns how many bytes it put at the front.
+// Reads until a buffer is full or the input ends, and returns how many bytes it put at the front. How far a read comes is the reader's to say: no `for` has that step.
 pub fn read_full(reader: &mut impl Read, buf: &mut [u8]) -> io::Result<usize>
     ensures { IfOk result (λ n. n ≤ length buf.new) }
 {

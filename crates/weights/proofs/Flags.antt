@@ -10,6 +10,7 @@ use lib.IntN.{ℤ, ◌+ℤ◌}
 use lib.ListN.{length, get_or, set, take, length-append}
 use lib.Seq.{take-set-le, take-suc-set}
 use lib.Dec.{eqb}
+use mir.Val.{bool_byte}
 use Rattle.loes.specs.Bytes.{Bytes, bit, odd, tabulate}
 use Rattle.loes.specs.Keys.{any_of}
 use Rattle.loes.proofs.Bytes.{length_tabulate}
@@ -73,11 +74,12 @@ module _ {q : Bytes} {r i f : ℕ} (e : FlagRead q r i f) where
   kept_next wa = ap (λ b. length (kept_to q r wa i) + bit b) (sym (flag_code f 1 q (r + i) e.low e.code)) ∙ sym (kept_one q r wa i)
 
   module _ (wa wb : Weights) where
-    pub sum_is : taken (odd f) wa (first_count (flags_from q r i)) +ℤ taken (odd (f / 2)) wb (second_count (flags_from q r i)) ≡ sum_at q r wa wb i
+    pub sum_is : (ia ib : ℕ) → ia ≡ first_count (flags_from q r i) → ib ≡ second_count (flags_from q r i) → taken (odd f) wa ia +ℤ taken (odd (f / 2)) wb ib ≡ sum_at q r wa wb i
     unfolding sum_at first_at second_at
-    sum_is =
-        ap₂ (λ a b. taken a wa (first_count (flags_from q r i)) +ℤ taken b wb (second_count (flags_from q r i)))
-        (sym (flag_odd q (r + i) f e.code).0) (sym (flag_odd q (r + i) f e.code).1)
+    sum_is ia ib x y =
+        rw (x, y)
+        (ap₂ (λ a b. taken a wa (first_count (flags_from q r i)) +ℤ taken b wb (second_count (flags_from q r i)))
+        (sym (flag_odd q (r + i) f e.code).0) (sym (flag_odd q (r + i) f e.code).1))
 
     -- a sum that leaves is one of two that both have
     pub over_is : (s : ℤ) → s ≡ sum_at q r wa wb i → ((odd f && odd (f / 2)) ≡ false → outside s ≡ false) → outside s ≡ over_at q r wa wb i
@@ -87,6 +89,11 @@ module _ {q : Bytes} {r i f : ℕ} (e : FlagRead q r i f) where
         go : (b : Bool) → (b ≡ false → outside s ≡ false) → outside s ≡ (b && outside s)
         go true g = refl
         go false g = g refl
+
+-- a truth value as a number
+pub byte_bit : (b : Bool) → bool_byte b ≡ bit b
+byte_bit true = refl
+byte_bit false = refl
 
 -- ---- One of the first n
 pub below_more : (f : ℕ → Bool) (n : ℕ) → any_below f (suc n) ≡ (any_below f n || f n)

@@ -1,9 +1,6 @@
-use Rattle.std.proofs.Common.{◌-◌, ◌≤◌, ◌≡◌, length, take}
+use Rattle.std.proofs.Common.{take}
 use Rattle.printing.specs.Text.{hex, Puts}
 use Rattle.printing.proofs.put_key.Given as goal
 
-abbrev pub invariant-loop-i : goal.invariant-loop-i
-invariant-loop-i l = (l.i ≤ length l.key) × (length l.text ≡ length l.fn.text) × Puts l.at (hex (take l.i l.key)) l.fn.text l.end l.text
-
-abbrev pub decreases-loop-i : goal.decreases-loop-i
-decreases-loop-i l = length l.key - l.i
+abbrev pub invariant-loop-byte : goal.invariant-loop-byte
+invariant-loop-byte l = Puts l.at (hex (take l.byte-index l.key)) l.fn.text l.end l.text

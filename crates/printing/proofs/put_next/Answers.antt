@@ -1,68 +1,76 @@
-use Rattle.std.proofs.Common.{◌≡◌, ℕ, ◌≤◌, ◌<◌, ◌^◌, length, take, refl, sym, ap, ◌∙◌, arith}
+use Rattle.std.proofs.Common.{◌≡◌, ℕ, ◌≤◌, ◌<◌, ◌^◌, length, take, refl, sym, arith}
 use lib.Seq.{length-take-le}
-use Rattle.loes.specs.Bytes.{Bytes, started}
 use Rattle.loes.specs.Entry.{key_bytes, count, Valid}
 use Rattle.loes.specs.Read.{entry_in}
 use Rattle.loes.proofs.Seven.{count_le}
 use Rattle.encoding.proofs.Opened.{opens_valid}
-use Rattle.encoding.specs.Opened.{Opens}
-use Rattle.encoding.specs.declared.Encoding.{Encoding}
 use Rattle.printing.specs.Text.{key_bytes_at}
 use Rattle.printing.proofs.Lines.{member_most}
-use Rattle.printing.proofs.Paging.{key_most, next_key, next_stands}
+use Rattle.printing.proofs.Paging.{key_most, next_wrote, next_key, next_stands}
 use Rattle.printing.proofs.put_next.Goals as goal
+use Rattle.printing.proofs.put_next.Goals.{After-advance}
+use Rattle.std.specs.Prelude.{Ok, ◌+◌}
+use Rattle.printing.specs.declared.Page.{Page}
+use Rattle.printing.specs.Pages.{Stands}
+use Rattle.loes.specs.Entry.{Entry}
 
--- the entry's limits, and the bytes of its keys
-module _ (l : Bytes) (e : Encoding) (o : Opens l e) where
-  valid : Valid (entry_in l)
-  valid = opens_valid _ _ o
+-- what the step from here leaves
+module _ (c : After-advance) where
+  abbrev e : Entry
+  e = entry_in c.args.o.bytes.now
 
-  bytes : (k : ℕ) → k ≡ started 8 e.width → k ≡ key_bytes (entry_in l).width
-  unfolding key_bytes
-  bytes k r = r ∙ ap (started 8) o.width
+  valid : Valid e
+  valid = opens_valid _ _ c.args.o.opens
 
-  fits : (k : ℕ) → k ≡ started 8 e.width → k ≤ 32
-  fits k r = omega (arith, bytes k r, key_most (entry_in l) valid)
+  there : c.args.p.index.0 < count e
+  there = omega (arith, c.args.o.opens.count, c.requires.1)
 
-  there : (i : ℕ) → i < e.count → i < count (entry_in l)
-  there i h = omega (arith, o.count)
+  -- it returns its key's bytes
+  wrote : c.advance.result ≡ Ok (key_bytes e.width)
+  wrote = next_wrote e valid c.args.p c.requires.0 there _ refl _ _ _ c.advance.ensures
 
-  small : (i : ℕ) → i < e.count → i < 2 ^ 64
-  small i h = omega (arith, there i h, count_le (entry_in l) valid.positive, valid.few)
+  -- it wrote that key, and stands at its member
+  key : take (key_bytes e.width) c.advance.new.out ≡ key_bytes_at e c.args.p.index.0
+  key = next_key e valid c.args.p c.requires.0 there _ refl _ _ _ c.advance.ensures
 
-pub bytes_for-k-requires : goal.bytes_for-k-requires
-bytes_for-k-requires c = let o = c.requires.0 in omega (arith, o.width, (valid _ _ o).narrow)
+  stands : (q : Page) → q.cursor ≡ c.advance.new.cursor → q.index.0 ≡ c.args.p.index.0 + 1 → Stands e q
+  stands = next_stands e valid c.args.p c.requires.0 there _ refl _ _ _ c.advance.ensures
+
+  -- so many bytes, and no more than a key can have
+  told : (n : ℕ) → c.advance.result ≡ Ok n → n ≡ key_bytes e.width
+  told n h = let w = wrote in cc
+
+  short : (n : ℕ) → c.advance.result ≡ Ok n → n ≤ 32
+  short n h = omega (arith, told n h, key_most e valid)
+
+  -- the index is a number of 64 bits
+  small : c.args.p.index.0 < 2 ^ 64
+  small = omega (arith, there, count_le e valid.positive, valid.few)
+
+pub unwrap-written-requires : goal.unwrap-written-requires
+unwrap-written-requires c = rw (wrote (goal.at.unwrap-written-requires c).After-advance)
 
 pub slice_bounds-key-end : goal.slice_bounds-key-end
-slice_bounds-key-end c = omega (arith, fits _ _ c.requires.0 _ c.bytes_for-k.ensures.0)
+slice_bounds-key-end c = omega (arith, short (goal.at.slice_bounds-key-end c).After-advance _ c.unwrap-written.ensures)
 
 pub slice_bounds-put_member-end : goal.slice_bounds-put_member-end
 slice_bounds-put_member-end c =
-    let key = c.moved-stepped.new.key in
-    let k = c.bytes_for-k.result in
-    let h : k ≤ length key = omega (arith, fits _ _ c.requires.0 _ c.bytes_for-k.ensures.0) in
-    sym (length-take-le k key h)
+    let h : c.unwrap-written.result ≤ length c.advance.new.out = omega (arith, short (goal.at.slice_bounds-put_member-end c).After-advance _ c.unwrap-written.ensures) in
+    sym (length-take-le c.unwrap-written.result c.advance.new.out h)
 
 pub put_member-length-requires : goal.put_member-length-requires
 put_member-length-requires c =
-    let key = c.moved-stepped.new.key in
-    let k = c.bytes_for-k.result in
-    let f : k ≤ 32 = fits _ _ c.requires.0 _ c.bytes_for-k.ensures.0 in
-    let h : k ≤ length key = omega (arith, f) in
-    let n : length (take k key) ≡ k = length-take-le k key h in
-    omega (arith, member_most c.args.p.index.0 (take k key) (small _ _ c.requires.0 _ c.requires.3) (omega (arith, n, f)), c.requires.4)
+    let at = (goal.at.put_member-length-requires c).After-advance in
+    let k = c.unwrap-written.result in
+    let f : k ≤ 32 = short at _ c.unwrap-written.ensures in
+    let h : k ≤ length c.advance.new.out = omega (arith, f) in
+    omega (arith, member_most c.args.p.index.0 (take k c.advance.new.out) (small at) (omega (arith, length-take-le k c.advance.new.out h, f)), c.requires.2)
 
 pub returns : goal.returns
 returns c =
-    let l = c.args.l.now in
-    let o = c.requires.0 in
-    let x = c.moved-stepped in
-    let v = valid _ _ o in
-    let t = there _ _ o _ c.requires.3 in
-    let key : take c.bytes_for-k.result x.new.key ≡ key_bytes_at (entry_in l) c.args.p.index.0 =
-    ap (λ n. take n x.new.key) (bytes _ _ o _ c.bytes_for-k.ensures.0) ∙ next_key (entry_in l) v c.args.p c.requires.2 t _ refl x.result x.new.key x.ensures in
+    let at = (goal.at.returns c).After-advance in
     record {
       index = refl;
-      puts = rw key at c.put_member-length.ensures;
-      stands = next_stands (entry_in l) v c.args.p c.requires.2 t _ refl x.result x.new.key x.ensures _ refl refl;
+      puts = rw (told at _ c.unwrap-written.ensures, key at) at c.put_member-length.ensures;
+      stands = stands at _ refl refl;
     }
