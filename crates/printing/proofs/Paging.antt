@@ -19,8 +19,9 @@ use Rattle.std.specs.Prelude.{Result, Ok, Err}
 use Rattle.loes.specs.declared.refusal.Refusal.{Refusal}
 use Rattle.cursor.specs.declared.Cursor.{Cursor}
 use Rattle.cursor.specs.Steps.{cursor_of, step_answer, advanced_of}
-use Rattle.printing.specs.declared.Page.{Page}
+use Rattle.printing.specs.declared.page.Page.{Page}
 use Rattle.printing.specs.Text.{member_line, key_bytes_at, lines_from, lines_of, numbers_line, first_line, max_line, Puts}
+use Rattle.printing.specs.Standing.{StandsAt}
 use Rattle.printing.specs.Pages.{Stands, PutsNext, Fills, Full, Printed, over, page, PagesAreLines}
 use Rattle.printing.proofs.Putting.{puts_none, puts_length, puts_then, puts_front}
 
@@ -53,16 +54,16 @@ module _ (e : Entry) (v : Valid e) (p : Page) (s : Stands e p) (lt : p.index.0 <
       ap (λ (a : Advanced). take (key_bytes e.width) a.buffer) went ∙ take_at k (drop (length k) out) (key_bytes e.width) (key_bytes_lem e i lt)
 
   -- where it stands
-  pub next_stands : (q : Page) → q.cursor ≡ after → q.index.0 ≡ i + 1 → Stands e q
-  next_stands q c n =
-      let at : cursor_of q.cursor ≡ cursor_at e i = ap cursor_of c ∙ ap (λ (a : Advanced). a.cursor) went in
-      let z : suc i ≡ q.index.0 = omega arith in
+  pub next_stands : StandsAt e after (i + 1)
+  next_stands =
+      let at : cursor_of after ≡ cursor_at e i = ap (λ (a : Advanced). a.cursor) went in
+      let z : suc i ≡ i + 1 = omega arith in
       record { right = ap (is_cursor_of e) at ∙ right_at e i v.narrow lt; next = ap (next_index e) at ∙ next_at e i lt ∙ z; within = omega arith }
 
 -- before the first member
-pub first_stands : (e : Entry) (p : Page) → cursor_of p.cursor ≡ record { state = before; offsets = replicate max_width 0 } → p.index.0 ≡ 0 → Stands e p
+pub first_stands : (e : Entry) (c : Cursor) → cursor_of c ≡ record { state = before; offsets = replicate max_width 0 } → StandsAt e c 0
 unfolding padded next_index
-first_stands e p c z = record { right = ap (is_cursor_of e) c ∙ (right_none e).0; next = ap (next_index e) c ∙ sym z; within = omega arith }
+first_stands e c q = record { right = ap (is_cursor_of e) q ∙ (right_none e).0; next = ap (next_index e) q; within = omega arith }
 
 -- ---- A page so far
 pub fills_none : (e : Entry) (p : Page) (d : Bytes) → Stands e p → p.length ≤ length d → Fills e p d p d

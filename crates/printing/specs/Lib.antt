@@ -1,4 +1,5 @@
 -- The text that is printed, and pages of it.
 pub mod Text
+pub mod Standing
 pub mod Pages
 pub mod Examples

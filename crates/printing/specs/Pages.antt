@@ -1,18 +1,15 @@
 -- Pages of lines: how far a page has come, what was put into it, and pages one after another.
-use Rattle.std.specs.Prelude.{◌≡◌, ℕ, ◌+◌, ◌<◌, ◌≤◌, true, length, take}
+use Rattle.std.specs.Prelude.{◌≡◌, ℕ, ◌+◌, ◌<◌, length, take}
 use mathlib.Core.List.{List, [], ◌∷◌, ◌++◌, flatten}
 use Rattle.loes.specs.Bytes.{Bytes}
 use Rattle.loes.specs.Entry.{Entry, count}
-use Rattle.loes.specs.Cursor.{is_cursor_of, next_index}
-use Rattle.cursor.specs.Steps.{cursor_of}
-use Rattle.printing.specs.declared.Page.{Page}
+use Rattle.printing.specs.declared.page.Page.{Page}
+use Rattle.printing.specs.Standing.{StandsAt}
 use Rattle.printing.specs.Text.{member_line, key_bytes_at, first_line, lines_from, lines_of, max_line, Puts}
 
 -- its cursor is right, and goes to the member of its index next; n: there is none
-pub record Stands (e : Entry) (p : Page) : Type 0 where
-  pub right : is_cursor_of e (cursor_of p.cursor) ≡ true
-  pub next : next_index e (cursor_of p.cursor) ≡ p.index.0
-  pub within : p.index.0 ≤ count e
+abbrev pub Stands : Entry → Page → Type 0
+Stands e p = StandsAt e p.cursor p.index.0
 
 -- from p to r the line of p's member was put
 pub record PutsNext (e : Entry) (p : Page) (d : Bytes) (r : Page) (d' : Bytes) : Type 0 where

@@ -6,14 +6,15 @@ ghost use Rattle.loes.specs.Entry.{count};
 ghost use Rattle.loes.specs.Read.{rejected, read, entry_in};
 ghost use Rattle.loes.specs.Numbers.{number_of};
 ghost use Rattle.printing.specs.Text.{decimal, named, hex_digit, hex, numbers_line, member_line, refused_line, first_line, lines_from, max_line, Puts};
-ghost use Rattle.printing.specs.Pages.{Stands, PutsNext, Fills, Full};
+
+pub mod page;
 
 use bits::MemberIndex;
-use cursor::Cursor;
 use encoding::Encoding;
 use encoding::opening::Opened;
 use itoa::Buffer;
 use loes::Refusal;
+use page::Page;
 use std::io;
 use std::io::Read;
 
@@ -130,43 +131,6 @@ fn put_refused(text: &mut [u8], at: usize, refusal: Refusal) -> usize
     put(text, end, LINE_FEED)
 }
 
-// ---- Pages of lines
-// How far a page has come: the cursor, the index of the member that it goes to next, and the bytes of text.
-#[derive(Clone, Copy)]
-pub struct Page {
-    pub cursor: Cursor,
-    pub index: MemberIndex,
-    pub length: usize,
-}
-
-// One more line: a step, which is not refused, and the line of the member it went to.
-fn put_next(o: Opened<'_>, p: Page, text: &mut [u8]) -> Page
-    requires { Stands (entry_in o.bytes.now) p × (p.index.0 < o.encoding.count) × (p.length + max_line ≤ length text.old) }
-    ensures { PutsNext (entry_in o.entry.bytes.now) p text.old result text.new }
-{
-    let mut key = [0u8; Encoding::MAX_KEY_BYTES];
-    let mut cursor = p.cursor;
-    let written = cursor::advance(o, &mut cursor, &mut key).unwrap();
-    let length = put_member(text, p.length, p.index, &key[..written]);
-    Page {
-        cursor,
-        index: MemberIndex(p.index.0 + 1),
-        length,
-    }
-}
-
-// More lines, while members are left and there is room for any line: no `for`, since either may end first.
-fn fill(o: Opened<'_>, from: Page, text: &mut [u8]) -> Page
-    requires { Stands (entry_in o.bytes.now) from × (from.length ≤ length text.old) }
-    ensures { Fills (entry_in o.entry.bytes.now) from text.old result text.new × Full (entry_in o.entry.bytes.now) result text.new }
-{
-    let mut p = from;
-    while p.index.0 < o.encoding.count && LINE <= text.len() - p.length {
-        p = put_next(o, p, text);
-    }
-    p
-}
-
 // ---- Writing: each is lent its text of the input and nothing else; no contract speaks of what leaves the process
 fn write_numbers(rt: &impl Print, l: &[u8], text: &[u8]) -> io::Result<()>
     requires { text.now ≡ first_line (entry_in l.now) }
@@ -200,27 +164,24 @@ fn print_numbers(rt: &impl Print, o: Opened<'_>) -> io::Result<()> {
 }
 
 // Prints a page of lines, and returns one that goes on from it.
-fn print_page(rt: &impl Print, o: Opened<'_>, from: Page) -> io::Result<Page>
-    requires { Stands (entry_in o.bytes.now) from × (from.length ≡ 0) × (from.index.0 < o.encoding.count) }
-    ensures { IfOk result (λ next. Stands (entry_in o.entry.bytes.now) next × (next.length ≡ 0) × (from.index.0 < next.index.0)) }
+fn print_page<'a>(rt: &impl Print, from: Page<'a>) -> io::Result<Page<'a>>
+    requires { (from.length ≡ 0) × (from.index.0 < from.opened.encoding.count) }
+    ensures { IfOk result (λ next. (next.opened ≡ from.entry.opened) × (next.length ≡ 0) × (from.entry.index.0 < next.index.0)) }
 {
     let mut text = [0u8; PAGE];
-    let p = fill(o, from, &mut text);
-    write_members(rt, o.bytes, from.index, p.index, &text[..p.length])?;
-    Ok(Page { length: 0, ..p })
+    let mut p = from.fill(&mut text);
+    write_members(rt, p.opened.bytes, from.index, p.index, &text[..p.length])?;
+    p.length = 0;
+    Ok(p)
 }
 
 // Prints the lines of the members, page by page, and returns the index that it came to. No `for`: how many go to a page is the page's to say.
 fn print_members(rt: &impl Print, o: Opened<'_>) -> io::Result<MemberIndex>
     ensures { IfOk result (λ to. to.0 ≡ count (entry_in o.entry.bytes.now)) }
 {
-    let mut p = Page {
-        cursor: Cursor::before(),
-        index: MemberIndex(0),
-        length: 0,
-    };
+    let mut p = Page::first(o);
     while p.index.0 < o.encoding.count {
-        p = print_page(rt, o, p)?;
+        p = print_page(rt, p)?;
     }
     Ok(p.index)
 }

@@ -7,34 +7,33 @@ use Rattle.encoding.proofs.Opened.{opens_valid}
 use Rattle.printing.specs.Text.{key_bytes_at}
 use Rattle.printing.proofs.Lines.{member_most}
 use Rattle.printing.proofs.Paging.{key_most, next_wrote, next_key, next_stands}
-use Rattle.printing.proofs.put_next.Goals as goal
-use Rattle.printing.proofs.put_next.Goals.{After-advance}
+use Rattle.printing.proofs.page.Page.put_next.Goals as goal
+use Rattle.printing.proofs.page.Page.put_next.Goals.{After-advance}
 use Rattle.std.specs.Prelude.{Ok, ◌+◌}
-use Rattle.printing.specs.declared.Page.{Page}
-use Rattle.printing.specs.Pages.{Stands}
+use Rattle.printing.specs.Standing.{StandsAt}
 use Rattle.loes.specs.Entry.{Entry}
 
 -- what the step from here leaves
 module _ (c : After-advance) where
   abbrev e : Entry
-  e = entry_in c.args.o.bytes.now
+  e = entry_in c.args.self.opened.bytes.now
 
   valid : Valid e
-  valid = opens_valid _ _ c.args.o.opens
+  valid = opens_valid _ _ c.args.self.opened.opens
 
-  there : c.args.p.index.0 < count e
-  there = omega (arith, c.args.o.opens.count, c.requires.1)
+  there : c.args.self.index.0 < count e
+  there = omega (arith, c.args.self.opened.opens.count, c.requires.0)
 
   -- it returns its key's bytes
   wrote : c.advance.result ≡ Ok (key_bytes e.width)
-  wrote = next_wrote e valid c.args.p c.requires.0 there _ refl _ _ _ c.advance.ensures
+  wrote = next_wrote e valid c.args.self c.args.self.stands there _ refl _ _ _ c.advance.ensures
 
   -- it wrote that key, and stands at its member
-  key : take (key_bytes e.width) c.advance.new.out ≡ key_bytes_at e c.args.p.index.0
-  key = next_key e valid c.args.p c.requires.0 there _ refl _ _ _ c.advance.ensures
+  key : take (key_bytes e.width) c.advance.new.out ≡ key_bytes_at e c.args.self.index.0
+  key = next_key e valid c.args.self c.args.self.stands there _ refl _ _ _ c.advance.ensures
 
-  stands : (q : Page) → q.cursor ≡ c.advance.new.cursor → q.index.0 ≡ c.args.p.index.0 + 1 → Stands e q
-  stands = next_stands e valid c.args.p c.requires.0 there _ refl _ _ _ c.advance.ensures
+  stands : StandsAt e c.advance.new.cursor (c.args.self.index.0 + 1)
+  stands = next_stands e valid c.args.self c.args.self.stands there _ refl _ _ _ c.advance.ensures
 
   -- so many bytes, and no more than a key can have
   told : (n : ℕ) → c.advance.result ≡ Ok n → n ≡ key_bytes e.width
@@ -44,7 +43,7 @@ module _ (c : After-advance) where
   short n h = omega (arith, told n h, key_most e valid)
 
   -- the index is a number of 64 bits
-  small : c.args.p.index.0 < 2 ^ 64
+  small : c.args.self.index.0 < 2 ^ 64
   small = omega (arith, there, count_le e valid.positive, valid.few)
 
 pub unwrap-written-requires : goal.unwrap-written-requires
@@ -64,13 +63,19 @@ put_member-length-requires c =
     let k = c.unwrap-written.result in
     let f : k ≤ 32 = short at _ c.unwrap-written.ensures in
     let h : k ≤ length c.advance.new.out = omega (arith, f) in
-    omega (arith, member_most c.args.p.index.0 (take k c.advance.new.out) (small at) (omega (arith, length-take-le k c.advance.new.out h, f)), c.requires.2)
+    omega (arith, member_most c.args.self.index.0 (take k c.advance.new.out) (small at) (omega (arith, length-take-le k c.advance.new.out h, f)), c.requires.1)
+
+pub invariant_of-result : goal.invariant_of-result
+invariant_of-result c = record { stands = stands (goal.at.invariant_of-result c).After-advance }
 
 pub returns : goal.returns
 returns c =
     let at = (goal.at.returns c).After-advance in
-    record {
-      index = refl;
-      puts = rw (told at _ c.unwrap-written.ensures, key at) at c.put_member-length.ensures;
-      stands = stands at _ refl refl;
-    }
+    (
+      refl,
+      record {
+        index = refl;
+        puts = rw (told at _ c.unwrap-written.ensures, key at) at c.put_member-length.ensures;
+        stands = stands at;
+      },
+    )
