@@ -18,6 +18,7 @@ pub mod pair;
 use bits::RecordIndex;
 use encoding::Encoding;
 use encoding::opening::Opened;
+use join_tables::room::TableRoom;
 use joined::JoinedEdges;
 use loes::Refusal;
 use merge::Sizes;
@@ -74,11 +75,8 @@ pub fn merged(a: EdgeBytes<'_>, b: EdgeBytes<'_>, q: &mut [u8]) -> Sizes
     if a.bits + b.bits < UNION_LEVEL * a.width + TABLES_FROM {
         return merge::merge(a, b, None, q);
     }
-    let mut spreads = [0; join_tables::SPREAD_ENTRIES];
-    let mut parts = [0; join_tables::PART_ENTRIES];
-    let mut runs = [0; join_tables::RUN_ENTRIES];
-    let tables = join_tables::fill(&mut spreads, &mut parts, &mut runs);
-    merge::merge(a, b, Some(tables), q)
+    let mut room = TableRoom::new();
+    merge::merge(a, b, Some(room.fill()), q)
 }
 
 // The edges of the difference, with tables where they pay; the flags of the union's members stay in the queue.
@@ -90,13 +88,10 @@ pub fn subtracted(a: EdgeBytes<'_>, b: EdgeBytes<'_>, q: &mut [u8], edges: &mut 
     if a.bits + b.bits < DIFFERENCE_LEVEL * a.width + TABLES_FROM {
         return restrict::subtract(a, b, None, None, q, edges);
     }
-    let mut spreads = [0; join_tables::SPREAD_ENTRIES];
-    let mut parts = [0; join_tables::PART_ENTRIES];
-    let mut runs = [0; join_tables::RUN_ENTRIES];
-    let mut edged = [0; join_tables::EDGED_ENTRIES];
-    let tables = join_tables::fill(&mut spreads, &mut parts, &mut runs);
-    let edged_table = join_tables::fill_edged(&mut edged);
-    restrict::subtract(a, b, Some(tables), Some(edged_table), q, edges)
+    let mut room = TableRoom::new();
+    let mut entries = [0; join_tables::EDGED_ENTRIES];
+    let edged = join_tables::fill_edged(&mut entries);
+    restrict::subtract(a, b, Some(room.fill()), Some(edged), q, edges)
 }
 
 // The edges of the union alone.

@@ -12,6 +12,7 @@ pub mod parts;
 
 use divide::Three;
 use join::joined::JoinedEdges;
+use join_tables::room::TableRoom;
 use loes::Refusal;
 use parts::Parts;
 use records::EdgeBytes;
@@ -38,13 +39,10 @@ fn divided(
     if a.bits + b.bits < TABLES_LEVEL * a.width + TABLES_FROM {
         return divide::divide(a, b, None, None, q, x, y, z);
     }
-    let mut spreads = [0; join_tables::SPREAD_ENTRIES];
-    let mut parts = [0; join_tables::PART_ENTRIES];
-    let mut runs = [0; join_tables::RUN_ENTRIES];
-    let mut edged = [0; join_tables::EDGED_ENTRIES];
-    let tables = join_tables::fill(&mut spreads, &mut parts, &mut runs);
-    let edged_table = join_tables::fill_edged(&mut edged);
-    divide::divide(a, b, Some(tables), Some(edged_table), q, x, y, z)
+    let mut room = TableRoom::new();
+    let mut entries = [0; join_tables::EDGED_ENTRIES];
+    let edged = join_tables::fill_edged(&mut entries);
+    divide::divide(a, b, Some(room.fill()), Some(edged), q, x, y, z)
 }
 
 // The three parts.

@@ -25,14 +25,14 @@ fits_inside (pos n) e = le-ltb 2147483647 n (omega (arith, e.sfits))
 fits_inside (negsuc n) e = or-false (ltb 2147483647 n) ∙ le-ltb 2147483647 n (omega (arith, e.sfits))
 
 -- a sum of two numbers of 32 bits is told where it does not leave them
-pub sum_told : (x y s : ℤ) (r : Option ℤ) → SFits w32 x → SFits w32 y → x +ℤ y ≡ s
+pub sum_told : (x y : ℤ) (r : Option ℤ) → SFits w32 x → SFits w32 y
     → SomeIff r (SFits w32 (to_z w32 (of_z w32 x) +ℤ to_z w32 (of_z w32 y))) (to_z w32 (of_z w32 x) +ℤ to_z w32 (of_z w32 y))
-    → SomeIff r (outside s ≡ false) s
-sum_told x y s r f g e h = go r (rw (to_z-of_z f, to_z-of_z g, e) at h)
+    → SomeIff r (outside (x +ℤ y) ≡ false) (x +ℤ y)
+sum_told x y r f g h = go r (rw (to_z-of_z f, to_z-of_z g) at h)
   where
-    go : (r : Option ℤ) → SomeIff r (SFits w32 s) s → SomeIff r (outside s ≡ false) s
-    go None h = λ e. h (inside_fits s e)
-    go (Some x) h = (fits_inside s h.0, h.1)
+    go : (r : Option ℤ) → SomeIff r (SFits w32 (x +ℤ y)) (x +ℤ y) → SomeIff r (outside (x +ℤ y) ≡ false) (x +ℤ y)
+    go None h = λ e. h (inside_fits (x +ℤ y) e)
+    go (Some s) h = (fits_inside (x +ℤ y) h.0, h.1)
 
 -- what was told of it: nothing, or the sum
 pub told_none : (s : ℤ) (r : Option ℤ) (b : Bool) → SomeIff r (outside s ≡ false) s → is_some r ≡ not b → b ≡ outside s
@@ -45,7 +45,3 @@ pub told_some : (s x : ℤ) (r : Option ℤ) → SomeIff r (outside s ≡ false)
 told_some s x r h e =
     let g : SomeIff (Some x) (outside s ≡ false) s = rw e at h in
     (g.0, (g.1, rw g.1 (inside_fits s g.0)))
-
-pub told_fits : (s : ℤ) (r : Option ℤ) → SomeIff r (outside s ≡ false) s → outside s ≡ false → IsSome r
-told_fits s None h e = absurd (h e)
-told_fits s (Some x) h e = search rules

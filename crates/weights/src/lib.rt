@@ -28,32 +28,6 @@ use loes::Refusal;
 use member_flags::MemberFlags;
 use merge::Sizes;
 
-// ---- Lists of two sets, read in step with the flags of their union's members. A weight is read before its flag says whether to take it, so that no load waits for its own flag and the choice takes no jump.
-// Weight i of a list, or 0 where there is none.
-pub(crate) fn weight_at(ws: &[i32], i: usize) -> i32
-    ensures { result ≡ get_or ws.now i no_weight }
-{
-    ws.get(i).copied().unwrap_or(0)
-}
-
-// The same if f is odd, else 0.
-fn weight_if(f: u8, ws: &[i32], i: usize) -> i32
-    ensures { result ≡ taken (odd f) ws.now i }
-{
-    let x = weight_at(ws, i);
-    if f % 2 == 1 { x } else { 0 }
-}
-
-// Both weights of a member with flag f, added, unless the sum leaves 32 signed bits, as it can only if both sets have it.
-pub(crate) fn sum_at(f: u8, wa: &[i32], ia: usize, wb: &[i32], ib: usize) -> Option<i32>
-    ensures fits { let sum : ℤ = taken (odd f) wa.now ia +ℤ taken (odd (f / 2)) wb.now ib in SomeIff result (outside sum ≡ false) sum }
-    ensures alone { (odd f && odd (f / 2)) ≡ false → outside (taken (odd f) wa.now ia +ℤ taken (odd (f / 2)) wb.now ib) ≡ false }
-{
-    let x = weight_if(f, wa, ia);
-    let y = weight_if(f / 2, wb, ib);
-    x.checked_add(y)
-}
-
 // ---- Post
 // Adds an amount to the weight at a place, unless the sum leaves 32 signed bits: nothing is written before that is known.
 fn post_at(list: &mut [i32], k: usize, amount: i32) -> Result<bool, Refusal>

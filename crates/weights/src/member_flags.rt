@@ -1,7 +1,26 @@
-ghost use Rattle.weights.specs.Lists.{FlagsFit};
+ghost use Rattle.std.specs.Prelude.{◌≡◌, get_or};
+ghost use Rattle.loes.specs.Bytes.{odd};
+ghost use Rattle.weights.specs.Weights.{no_weight};
+ghost use Rattle.weights.specs.Lists.{taken, FlagsFit};
 
 use bits::RecordIndex;
 use restrict::Members;
+
+// Lists of two sets, read in step with the flags of their union's members. A weight is read before its flag says whether to take it, so that no load waits for its own flag and the choice takes no jump.
+// Weight i of a list, or 0 where there is none.
+fn weight_at(ws: &[i32], i: usize) -> i32
+    ensures { result ≡ get_or ws.now i no_weight }
+{
+    ws.get(i).copied().unwrap_or(0)
+}
+
+// The same if f is odd, else 0.
+fn weight_if(f: u8, ws: &[i32], i: usize) -> i32
+    ensures { result ≡ taken (odd f) ws.now i }
+{
+    let x = weight_at(ws, i);
+    if f % 2 == 1 { x } else { 0 }
+}
 
 // The flags of the members of two sets' union, in order, from a record of a queue on: each says in which of the two its member is.
 #[derive(Clone, Copy)]
@@ -34,7 +53,9 @@ impl MemberFlags<'_> {
         let mut over = false;
         for i in 0..self.count {
             let f = self.at(i);
-            over |= crate::sum_at(f, wa, ia, wb, ib).is_none();
+            let x = weight_if(f, wa, ia);
+            let y = weight_if(f / 2, wb, ib);
+            over |= x.checked_add(y).is_none();
             ia += usize::from(f % 2);
             ib += usize::from(f / 2);
         }
@@ -50,7 +71,7 @@ impl MemberFlags<'_> {
         let mut ib: usize = 0;
         for i in 0..self.count {
             let f = self.at(i);
-            list[i] = crate::sum_at(f, wa, ia, wb, ib).unwrap();
+            list[i] = weight_if(f, wa, ia) + weight_if(f / 2, wb, ib);
             ia += usize::from(f % 2);
             ib += usize::from(f / 2);
         }
@@ -65,7 +86,7 @@ impl MemberFlags<'_> {
         let mut k: usize = 0;
         for i in 0..self.count {
             let f = self.at(i);
-            let x = crate::weight_at(wa, ia);
+            let x = weight_at(wa, ia);
             if k < list.len() {
                 list[k] = x;
             }

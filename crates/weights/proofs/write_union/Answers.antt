@@ -25,10 +25,10 @@ returns-then-u-gt-MAX_EDGES c =
 pub returns-then-too_short : goal.returns-then-too_short
 returns-then-too_short c =
     let short : (ltb (length c.args.out.now) (end_of c.args.width c.args.u.edges) || ltb (length c.args.list.now) c.args.u.members) ≡ true =
-        elim c.then-too_short.branch [
-          | then-too_short-via-then-too_short w ↦ rw (← c.too_short.ensures, w.if-too_short.true)
-          | then-too_short-via-else-too_short+then-list-u w ↦ rw (← c.too_short.ensures, w.if-too_short.false) (lt_yes _ _ w.if-list-u.true)
-        ] in
+    elim c.then-too_short.branch [
+      | then-too_short-via-then-too_short w ↦ rw (← c.too_short.ensures, w.if-too_short.true)
+      | then-too_short-via-else-too_short+then-list-u w ↦ rw (← c.too_short.ensures, w.if-too_short.false) (lt_yes _ _ w.if-list-u.true)
+    ] in
     sym (told_short c.args.width c.args.u.edges c.args.q.now (flagged_bits c.requires.0) c.if-u-gt-MAX_EDGES.false (tabulate (sum_at c.args.q.now (c.args.u.edges / 2) c.args.wa.now c.args.wb.now) c.args.u.members) c.args.u.members (length_tabulate _ c.args.u.members) c.args.out.now c.args.list.now (test (any_below (over_at c.args.q.now (c.args.u.edges / 2) c.args.wa.now c.args.wb.now) c.args.u.members) overflow ∷ []) short)
 
 pub returns-then-any_outside : goal.returns-then-any_outside

@@ -6,7 +6,7 @@ use mir.Syntax.{w32}
 use mir.Facts.{to_z-of_z}
 use Rattle.loes.specs.Bytes.{odd}
 use Rattle.weights.specs.Lists.{taken}
-use Rattle.weights.proofs.weight_if.Goals as goal
+use Rattle.weights.proofs.member_flags.weight_if.Goals as goal
 
 pub returns-then-f-eq1 : goal.returns-then-f-eq1
 unfolding taken
