@@ -53,7 +53,7 @@ impl<'a> Page<'a> {
         }
     }
 
-    // More lines, while members are left and there is room for any line.
+    // More lines, while members are left and there is room for any line: no `for`, since either may end first.
     pub fn fill(self, text: &mut [u8]) -> Page<'a>
         requires { self.length ≤ length text.old }
         ensures { (result.opened ≡ self.entry.opened) × Fills (entry_in self.entry.opened.bytes.now) self.entry text.old result text.new × Full (entry_in self.entry.opened.bytes.now) result text.new }
