@@ -98,7 +98,7 @@ fn mark_record(
         marks,
         queue: q,
         records: r,
-        members,
+        flag: members.flag(),
     };
     let kept = entries.kept_record(e, d);
     records::put_record(marks, j, kept);

@@ -174,7 +174,7 @@ fn mark_record(
         marks: q,
         queue: q,
         records: r,
-        members,
+        flag: members.flag(),
     };
     let z = entries.kept_record(x, d);
     records::put_record(q, i, z);
