@@ -19,7 +19,7 @@ const NOT_FOUND: u32 = 0;
 // The value of a key that is present, and of an amount that was posted.
 const THERE: usize = 1;
 
-// loes_answer
+// loes_answer, as include/loes.h lays it out.
 #[repr(C)]
 #[derive(Clone, Copy)]
 pub struct Answer {
@@ -122,7 +122,7 @@ impl From<Result<usize, Refusal>> for Answer {
     }
 }
 
-// loes_opened
+// loes_opened, as include/loes.h lays it out.
 #[repr(C)]
 #[derive(Clone, Copy)]
 pub struct Opened {
@@ -157,7 +157,7 @@ impl From<Result<opening::Opened<'_>, Refusal>> for Opened {
     }
 }
 
-// loes_range
+// loes_range, as include/loes.h lays it out.
 #[repr(C)]
 #[derive(Clone, Copy)]
 pub struct Range {
@@ -189,7 +189,7 @@ impl From<Result<Span, Refusal>> for Range {
     }
 }
 
-// loes_lengths
+// loes_lengths, as include/loes.h lays it out.
 #[repr(C)]
 #[derive(Clone, Copy)]
 pub struct Lengths {

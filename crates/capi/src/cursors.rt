@@ -8,7 +8,7 @@ use bits::EdgeOffset;
 use cursor::{State, Stepped, Walked};
 use encoding::Encoding;
 
-// loes_cursor
+// loes_cursor, as include/loes.h lays it out.
 #[repr(C)]
 #[derive(Clone, Copy)]
 pub struct Cursor {

@@ -44,16 +44,7 @@ pub record Joined (m k : ℕ) (l : Bytes) : Type 0 where
   pub same : edges_of (entry_held m k l) ≡ bits_in l k
   pub whole : take (started 8 k) l ≡ pack_bits (bits_in l k)
 
--- the rooms: for encodings of at most so many bytes, and for any two by the most edges
-abbrev pub tiny : ℕ
-tiny = 512
-
-abbrev pub small : ℕ
-small = 2048
-
-abbrev pub middle : ℕ
-middle = 16384
-
+-- the room of any two, by the most edges
 abbrev pub large : ℕ
 large = max_edges / 8
 

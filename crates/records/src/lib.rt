@@ -20,6 +20,7 @@ pub use lent::{Parts, Tables};
 pub use runs::Run;
 
 // ---- Records in bytes, as numbers 2·on_zero + on_one
+// A record is no struct here: the format lays down its two bits, four records to a byte, and joins shift and mask many at once.
 
 // Record k of a byte.
 pub fn record_in(x: u8, k: usize) -> u8
@@ -56,7 +57,7 @@ pub fn put_record(out: &mut [u8], i: RecordIndex, z: u8)
     out[at] = with_record(old, i.0 % 4, z);
 }
 
-// Record z is put behind the first n, which grow by it if it has an edge.
+// Record z is put behind the first n, which grow by it if it has an edge. The bytes and their end make no struct: in a merge one slice has two ends, of records written and of flags.
 pub fn push(out: &mut [u8], n: RecordIndex, z: u8) -> RecordIndex
     requires { (n.0 < 4 * length out.old) × (z < 4) × (n.0 ≤ 4 * max_edges) }
     ensures { Pushed n.0 z out.old out.new result.0 }

@@ -105,9 +105,6 @@ module _ (x y : EdgeBytes) (w : x.width ≡ y.width) where
     pub difference_made : Joined x.width k U × (entry_held x.width k U ≡ difference_entry d e)
     difference_made = made join.Difference x.holds y.holds w s.edges
 
-    pub difference_flags : length Q ≤ max_edges → FlagsFit P r n
-    difference_flags small = record { fits = s.flags.fits; small = rw s.queue small }
-
     -- as many entries as members are left
     pub difference_count : (wa : Weights) → length (kept_to P r wa n) ≡ count (entry_held x.width k U)
     difference_count wa = ap length (kept_listed alike s.flags wa) ∙ length_listed (difference_entry d e) (weight_of d wa) ∙ ap count (sym difference_made.1)
