@@ -1,5 +1,4 @@
 use mathlib.Core.Path.{◌≡◌, refl, ap, ◌∙◌}
-use native.Mathlib.Omega.{arith}
 use Rattle.encoding.specs.declared.opening.Opened.{Opened}
 use Rattle.loes.specs.Read.{entry_in}
 use Rattle.printing.proofs.Paging.{fills_none, fills_next}
@@ -17,9 +16,3 @@ loop-p-preserved c = (
   c.put_next-p.ensures.0 ∙ c.loop-p.invariant.0,
   fills_next _ _ _ _ _ _ _ c.loop-p.invariant.1 (rw (same_entry _ _ c.loop-p.invariant.0) at c.put_next-p.ensures.1),
 )
-
-pub returns-else-text-p-ge-LINE : goal.returns-else-text-p-ge-LINE
-returns-else-text-p-ge-LINE c = (c.loop-p.invariant.0, c.loop-p.invariant.1, λ h. omega arith)
-
-pub returns-after-loop-p : goal.returns-after-loop-p
-returns-after-loop-p c = (c.loop-p.invariant.0, c.loop-p.invariant.1, λ h. absurd (omega (arith, h, c.loop-p-test.false, c.args.self.opened.opens.count, ap (λ (o : Opened). o.encoding.count) c.loop-p.invariant.0)))

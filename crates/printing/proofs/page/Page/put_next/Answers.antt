@@ -70,8 +70,7 @@ invariant_of-result c = record { stands = stands (goal.at.invariant_of-result c)
 
 pub returns : goal.returns
 returns c =
-    let at = (goal.at.returns c).After-advance in
-    (
+    let at = (goal.at.returns c).After-advance in (
       refl,
       record {
         index = refl;
