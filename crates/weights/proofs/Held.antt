@@ -10,7 +10,6 @@ use Rattle.loes.specs.Encode.{encode}
 use Rattle.loes.specs.Read.{end_of}
 use Rattle.loes.specs.Refusals.{short_buffer, Tests, first_of}
 use Rattle.loes.specs.Model.{refused, wrote}
-use Rattle.loes.proofs.Tests.{neither, no_lt}
 use Rattle.build.proofs.Fields.{held_length}
 use Rattle.weights.specs.Weights.{Weights, leaving, writes_with}
 use Rattle.weights.proofs.Writes.{writes_short, writes_last, writes_fits, wrote_same}

@@ -8,7 +8,7 @@ use native.Mathlib.Omega.{arith}
 use lib.ListN.{length}
 use lib.Dec.{eqb}
 use Rattle.loes.specs.Limits.{max_edges}
-use Rattle.loes.specs.Bytes.{Bytes, tabulate, bits_in}
+use Rattle.loes.specs.Bytes.{Bytes, tabulate}
 use Rattle.loes.specs.Entry.{Entry, count, edges_of, with_set}
 use Rattle.loes.specs.Refusals.{wrong_list, overflow, test, first_of}
 use Rattle.loes.specs.Read.{read, opened, entry_in, entry_along}
@@ -27,7 +27,7 @@ use Rattle.join.specs.declared.pair.Pair.{Pair}
 use Rattle.records.specs.declared.edge_bytes.EdgeBytes.{EdgeBytes}
 use Rattle.weights.specs.Weights.{Weights, outputs, leaving, list_test, weight_of, listed, sum_of, sum_test, writes_with, union_weighted, difference_weighted, union_weighted_call, difference_weighted_call}
 use Rattle.weights.specs.Answers.{weighted_call}
-use Rattle.weights.specs.Lists.{sum_at, over_at, any_below, kept_to, FlagsFit, Flagged}
+use Rattle.weights.specs.Lists.{sum_at, over_at, any_below, kept_to, Flagged}
 use Rattle.weights.proofs.Writes.{writes_refused, writes_on}
 use Rattle.weights.proofs.Lists.{list_passes, list_fails, length_listed}
 use Rattle.weights.proofs.Members.{sums_listed, sums_tested, kept_listed}

@@ -1,6 +1,5 @@
 -- Sums of two entries, and the range of 32 signed bits.
 use mathlib.Core.Path.{◌≡◌, sym, ◌∙◌}
-use borrow.Author.Rules.{rules}
 use mathlib.Core.Bool.{Bool, true, false, not, or-false, false≢true}
 use native.Mathlib.Omega.{arith}
 use lib.Dec.{ltb}
@@ -8,7 +7,7 @@ use lib.IntN.{ℤ, pos, negsuc, ◌+ℤ◌}
 use mir.Val.{to_z, of_z}
 use mir.Facts.{to_z-of_z}
 use Rattle.std.proofs.lemmas.Bool.{true_from_ne_false}
-use Rattle.std.specs.Prelude.{Option, None, Some, SomeIff, IsSome, is_some}
+use Rattle.std.specs.Prelude.{Option, None, Some, SomeIff, is_some}
 use mir.Syntax.{w32}
 use mir.Val.{SFits}
 use borrow.Author.Tests.{ltb-false, le-ltb}

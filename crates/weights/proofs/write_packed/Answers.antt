@@ -23,9 +23,6 @@ returns-in_err-size c =
     rw (p.1, p.2)
     (as_packed c.args.m c.args.batch.now c.args.out.now c.args.list.now c.requires.0.accepted c.count_members-n.result _ c.count_members-n.ensures c.if-list-n.false c.in_err-size.ensures)
 
-pub slice_bounds-fill-end : goal.slice_bounds-fill-end
-slice_bounds-fill-end c = sym (length-take-le c.count_members-n.result c.args.list.now c.if-list-n.false)
-
 pub returns : goal.returns
 unfolding written_outcome with_zeros changes
 returns c =

@@ -5,7 +5,6 @@ use mir.Syntax.{w32}
 use mir.Val.{SFits}
 use borrow.Author.Rules.{rules}
 use native.Mathlib.Numerals.{add-one}
-use lib.ListN.{length}
 use mir.Facts.{to_z-of_z}
 use Rattle.loes.specs.Bytes.{tabulate}
 use Rattle.records.specs.Records.{flags_from, first_count, second_count}
