@@ -1,5 +1,5 @@
 -- A buffer whose front is written, piece behind piece.
-use mathlib.Core.Path.{◌≡◌, sym, ap, ◌∙◌}
+use mathlib.Core.Path.{◌≡◌, refl, sym, ap, ap₂, ◌∙◌}
 use mathlib.Core.List.{[], ◌∷◌, ◌++◌, append_assoc, append-nil}
 use Prim.Native.Nat.{ℕ, ◌+◌, ◌-◌, ◌*◌, ◌/◌, ◌^◌, ◌≤◌, ◌<◌}
 use native.Mathlib.Omega.{arith}
@@ -146,3 +146,33 @@ numbers_field p t w f n len xs zs ys e g h =
 -- a field in front leaves the buffer's length
 pub field_long : (t : ℕ) (x xs ys : Bytes) → ys ≡ front (field t x) xs → head_bytes + length x ≤ length xs → length ys ≡ length xs
 field_long t x xs ys e h = ap length e ∙ length_front (field t x) xs (omega (arith, field_length t x))
+
+-- the last number, written again, changes nothing
+pub numbers_again : (xs zs ys : Bytes) (w : ℕ) (f : ℕ → ℕ) (k n : ℕ) → w * k ≡ n → n ≤ length zs → zs ≡ front (big_endians w f (k + 1)) xs
+    → ys ≡ front (big_endian w (f k)) (take (length zs - n) (drop n zs)) → put_mid n (length zs - n) zs ys ≡ zs
+unfolding front big_endians
+numbers_again xs zs ys w f k n size room done e =
+    let p : Bytes = big_endians w f k in
+    let x : Bytes = big_endian w (f k) in
+    let r : Bytes = drop (length (p ++ x)) xs in
+    let long : length p ≡ n = length_big_endians w f k ∙ mul_comm k w ∙ size in
+    let all : zs ≡ p ++ (x ++ r) = (rw add-one at done) ∙ append_assoc p x r in
+    let rest : drop n zs ≡ x ++ r = ap (drop n) all ∙ drop_at p (x ++ r) n long in
+    let part : take (length zs - n) (drop n zs) ≡ drop n zs = take_all (length zs - n) (drop n zs) (omega (arith, length-drop n zs)) in
+    let gone : drop (length zs - n) (drop n zs) ≡ [] = drop_of_length-le (drop n zs) (omega (arith, length-drop n zs)) in
+    let wrote : ys ≡ drop n zs = e ∙ ap (λ y. x ++ drop (length x) y) (part ∙ rest) ∙ ap (λ y. x ++ y) (drop_at x r (length x) refl) ∙ sym rest in
+    rw (gone, wrote, append-nil) (take-append-drop n zs)
+
+-- a buffer in three parts: the first stays, g fills the second, and h is put to the front of the third
+pub three_parts : (a b c g h xs ys zs : Bytes) → xs ≡ a ++ (b ++ c) → length g ≡ length b → ys ≡ front g b → zs ≡ front h c → a ++ (ys ++ zs) ≡ front ((a ++ g) ++ h) xs
+unfolding front
+three_parts a b c g h xs ys zs parts full second third =
+    let whole : ys ≡ g = second ∙ ap (λ x. g ++ x) (drop_of_length-le b (omega arith)) ∙ append-nil g in
+    let n : length ((a ++ g) ++ h) ≡ length a + (length b + length h) = simp length-append (omega arith) in
+    let rest : drop (length ((a ++ g) ++ h)) xs ≡ drop (length h) c =
+    ap₂ drop n parts ∙ drop-append-add a (b ++ c) (length b + length h) ∙ drop-append-add b c (length h) in
+    rw (whole, third, rest) (simp append_assoc)
+
+-- a buffer in two parts: g fills the first, and h is put to the front of the second
+pub two_parts : (b c g h xs ys zs : Bytes) → xs ≡ b ++ c → length g ≡ length b → ys ≡ front g b → zs ≡ front h c → ys ++ zs ≡ front (g ++ h) xs
+two_parts b c g h xs ys zs = three_parts [] b c g h xs ys zs

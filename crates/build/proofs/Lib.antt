@@ -3,3 +3,4 @@ pub mod Shape
 pub mod Fields
 pub mod Sealing
 pub mod Standing
+mod Numbers

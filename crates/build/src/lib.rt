@@ -6,251 +6,125 @@ ghost use Rattle.loes.specs.Limits.{max_width, max_edges, block_bits, sub_block_
 ghost use Rattle.loes.specs.Bytes.{big_endian, big_endians, started, bits_in, front};
 ghost use Rattle.loes.specs.Edges.{ones};
 ghost use Rattle.loes.specs.Entry.{count};
-ghost use Rattle.loes.specs.Encode.{field, sub_block_ones, encode};
+ghost use Rattle.loes.specs.Encode.{field, block_ones, sub_block_ones, encode};
 ghost use Rattle.loes.specs.Held.{entry_held, Holds};
 ghost use Rattle.loes.specs.Model.{writes};
 ghost use Rattle.loes.specs.Read.{level_bytes, edge_bytes, block_bytes, sub_block_bytes, body_at, start3, start4, end_of};
-ghost use Rattle.bits.specs.Tables.{Tallies};
-ghost use Rattle.build.specs.Writing.{HoldsOnly, standing, Counts, Shaped, max_blocks, leading, Based, indexed, written_outcome};
+ghost use Rattle.encoding.specs.Fields.{tag_of};
+ghost use Rattle.build.specs.Writing.{HoldsOnly, standing, Shaped, shape, indexed, written_outcome};
+
+mod seen;
 
 use bits::EdgeOffset;
 use encoding::Encoding;
+use encoding::field::Field;
+use loes::Refusal;
+use seen::Seen;
 
-// As many blocks as there can be: the most edges do not fill the last.
-const MAX_BLOCKS: usize = Encoding::MAX_EDGES / Encoding::BLOCK_BITS + 1;
-
-// A number in 2 bytes at the front of a buffer.
-fn put2(out: &mut [u8], n: usize)
-    requires { 2 ≤ length out.old }
-    ensures { out.new ≡ front (big_endian 2 n) out.old }
+// A number in K bytes at the front of a buffer, most significant byte first.
+fn put<const K: usize>(out: &mut [u8], n: usize)
+    requires { (K ≤ 8) × (K ≤ length out.old) }
+    ensures { out.new ≡ front (big_endian K n) out.old }
 {
-    out[0] = (n / 256 % 256) as u8;
-    out[1] = (n % 256) as u8;
+    let bytes = (n as u64).to_be_bytes();
+    out[..K].copy_from_slice(&bytes[8 - K..]);
 }
 
-// The same in 4 bytes.
-fn put4(out: &mut [u8], n: usize)
-    requires { 4 ≤ length out.old }
-    ensures { out.new ≡ front (big_endian 4 n) out.old }
-{
-    out[0] = (n / 256 / 256 / 256 % 256) as u8;
-    out[1] = (n / 256 / 256 % 256) as u8;
-    out[2] = (n / 256 % 256) as u8;
-    out[3] = (n % 256) as u8;
-}
-
-// The same in 8 bytes.
-fn put8(out: &mut [u8], n: usize)
-    requires { (8 ≤ length out.old) × (n < 2 ^ 32) }
-    ensures { out.new ≡ front (big_endian 8 n) out.old }
-{
-    put4(out, 0);
-    put4(&mut out[4..], n);
-}
-
-// A field's tag and length.
-fn put_head(out: &mut [u8], tag: u8, n: usize)
+// A field's head: its tag, and the length of its body.
+fn put_head(out: &mut [u8], kind: Field, n: usize)
     requires { head_bytes ≤ length out.old }
-    ensures { out.new ≡ front (tag ∷ big_endian length_bytes n) out.old }
+    ensures { out.new ≡ front (tag_of kind ∷ big_endian length_bytes n) out.old }
 {
-    out[0] = tag;
-    out[1] = (n / 256 % 256) as u8;
-    out[2] = (n % 256) as u8;
+    out[0] = kind.tag();
+    put::<{ Encoding::LENGTH_BYTES }>(&mut out[Encoding::TAG_BYTES..], n);
+}
+
+// A field of numbers, K bytes each: its head, and they behind it one after another.
+fn put_numbers<const K: usize>(out: &mut [u8], kind: Field, numbers: &[usize])
+    requires { (K ≤ 8) × (head_bytes + K * length numbers.now ≤ length out.old) }
+    ensures { out.new ≡ front (field (tag_of kind) (big_endians K (λ (j : ℕ). get_or numbers.now j 0) (length numbers.now))) out.old }
+{
+    put_head(out, kind, K * numbers.len());
+    for (j, &n) in numbers.iter().enumerate() {
+        put::<K>(&mut out[Encoding::HEAD_BYTES + K * j..], n);
+    }
 }
 
 // ---- Counting
-// The set bits of so many bytes from the first on.
-#[derive(Clone, Copy)]
-pub struct Seen {
-    pub bytes: usize,
-    pub ones: usize,
-}
-
-// Counts on by whole words, to less than 8 bytes before `upto`.
-fn count_words(edges: &[u8], s: Seen, upto: usize) -> Seen
-    requires { Counts edges.now s × (s.bytes ≤ upto) × (upto ≤ length edges.now) × (length edges.now ≤ max_edges / 8) }
-    ensures { Counts edges.now result × (result.bytes ≤ upto) × (upto < result.bytes + 8) }
-{
-    let mut n = s.ones;
-    let mut i = s.bytes;
-    while 8 <= upto - i {
-        n += bits::word_ones(edges, i);
-        i += 8;
-    }
-    Seen { bytes: i, ones: n }
-}
-
-// Counts on, to the first `upto` bytes.
-fn count_to(edges: &[u8], t: &[u8], s: Seen, upto: usize) -> Seen
-    requires { Counts edges.now s × Tallies t.now × (s.bytes ≤ upto) × (upto ≤ length edges.now) × (length edges.now ≤ max_edges / 8) }
-    ensures { Counts edges.now result × (result.bytes ≡ upto) }
-{
-    let words = count_words(edges, s, upto);
-    let mut n = words.ones;
-    let mut i = words.bytes;
-    while i < upto {
-        let x = edges[i] as usize;
-        n += t[x] as usize;
-        i += 1;
-    }
-    Seen {
-        bytes: upto,
-        ones: n,
-    }
-}
-
-// The set bits before an offset in the byte behind those seen.
-fn ones_at(edges: &[u8], t: &[u8], s: Seen, o: EdgeOffset) -> usize
-    requires { Counts edges.now s × Tallies t.now × (s.bytes ≡ o.0 / 8) × (o.0 ≤ 8 * length edges.now) × (length edges.now ≤ max_edges / 8) }
-    ensures { result ≡ ones (bits_in edges.now o.0) }
-{
-    let n = o.0;
-    let k = n % 8;
-    if k == 0 {
-        return s.ones;
-    }
-    s.ones + bits::tally_part(edges, t, n / 8, k)
-}
-
 // Where each level ends; returns the number of members.
-fn level_ends(edges: &[u8], t: &[u8], m: usize, b: usize, ends: &mut [usize]) -> usize
-    requires { Holds m b edges.now × Tallies t.now × (length edges.now ≤ max_edges / 8) × (m ≤ length ends.old) }
-    ensures { Shaped m b edges.now ends.new result }
+fn level_ends(edges: &[u8], b: usize, ends: &mut [usize]) -> usize
+    requires { Holds (length ends.old) b edges.now × (length edges.now ≤ max_edges / 8) }
+    ensures { Shaped (length ends.old) b edges.now ends.new result }
 {
     let c = encoding::roots_of(b);
-    let mut seen = Seen { bytes: 0, ones: 0 };
+    let mut seen = Seen::none(edges);
     let mut n = 0;
-    let mut d = 0;
-    while d < m {
+    for place in ends.iter_mut() {
         let end = 2 * (c + n);
-        ends[d] = end;
-        seen = count_to(edges, t, seen, end / 8);
-        n = ones_at(edges, t, seen, EdgeOffset(end));
-        d += 1;
+        *place = end;
+        seen = seen.count_to(end / 8);
+        n = seen.ones_at(EdgeOffset(end));
     }
     c + n - b / 2
 }
 
 // The members alone, of sets of whatever width: the set bits of all edges less the records that they lead to.
-pub fn members_of(m: usize, b: usize, edges: &[u8], t: &[u8]) -> usize
-    requires { Holds m b edges.now × Tallies t.now × (length edges.now ≤ max_edges / 8) }
+pub fn members_of(m: usize, b: usize, edges: &[u8]) -> usize
+    requires { Holds m b edges.now × (length edges.now ≤ max_edges / 8) }
     ensures { result ≡ count (entry_held m b edges.now) }
 {
-    let seen = count_to(edges, t, Seen { bytes: 0, ones: 0 }, b / 8);
-    let n = ones_at(edges, t, seen, EdgeOffset(b));
+    let n = Seen::none(edges).count_to(b / 8).ones_at(EdgeOffset(b));
     encoding::roots_of(b) + n - b / 2
 }
 
-// ---- Fields of numbers, each written behind its head one after another
-// Field 3: where each of m levels ends.
-fn put_levels(out: &mut [u8], m: usize, ends: &[usize])
-    requires { (head_bytes + level_bytes m ≤ length out.old) × (m ≤ max_width) × (m ≤ length ends.now) }
-    ensures { out.new ≡ front (field 3 (big_endians level_entry (λ (d : ℕ). get_or ends.now d 0) m)) out.old }
+// ---- The fields
+// What stands before the edges: fields 1 to 3, each behind the one before it, and field 4's head.
+fn put_shape(out: &mut [u8], b: usize, n: usize, ends: &[usize])
+    requires { (body_at start3 + level_bytes (length ends.now) + head_bytes ≤ length out.old) × (length ends.now ≤ max_width) × (b ≤ max_edges) }
+    ensures { out.new ≡ front (shape b n ends.now) out.old }
 {
-    put_head(out, 3, Encoding::LEVEL_ENTRY * m);
-    let mut d = 0;
-    while d < m {
-        let end = ends[d];
-        let at = Encoding::HEAD_BYTES + Encoding::LEVEL_ENTRY * d;
-        put4(&mut out[at..], end);
-        d += 1;
-    }
+    put_numbers::<{ Encoding::WIDTH_BYTES }>(out, Field::Width, &[ends.len()]);
+    put_numbers::<{ Encoding::COUNT_BYTES }>(&mut out[Encoding::START2..], Field::Count, &[n]);
+    put_numbers::<{ Encoding::LEVEL_ENTRY }>(&mut out[Encoding::START3..], Field::Levels, ends);
+    let field4 = Encoding::LEVELS_AT + Encoding::LEVEL_ENTRY * ends.len();
+    put_head(&mut out[field4..], Field::Edges, bits::bytes_for(b));
 }
 
-// Field 5: for each of so many blocks, the set bits before it.
-fn put_blocks(out: &mut [u8], blocks: usize, bases: &[usize])
-    requires blocks_in_bounds { (head_bytes + block_entry * blocks ≤ length out.old) × (blocks ≤ length bases.now) × (length bases.now ≤ max_blocks) }
-    requires by_index { (j : ℕ) → j < blocks → get_or bases.now j 0 < 2 ^ 32 }
-    ensures { out.new ≡ front (field 5 (big_endians block_entry (λ (j : ℕ). get_or bases.now j 0) blocks)) out.old }
+// The bodies of fields 5 and 6: for each started block of the edges the set bits before it, and for each started sub-block those of its block before it. A block's are written again at each of its sub-blocks.
+fn put_counts(edges: &[u8], b: usize, blocks: &mut [u8], sub_blocks: &mut [u8])
+    requires { (length edges.now ≡ edge_bytes b) × (b ≤ max_edges) × (block_bytes b ≤ length blocks.old) × (sub_block_bytes b ≤ length sub_blocks.old) }
+    ensures of_blocks { blocks.new ≡ front (big_endians block_entry (block_ones (bits_in edges.now b)) (started block_bits b)) blocks.old }
+    ensures of_sub_blocks { sub_blocks.new ≡ front (big_endians sub_block_entry (sub_block_ones (bits_in edges.now b)) (started sub_block_bits b)) sub_blocks.old }
 {
-    put_head(out, 5, Encoding::BLOCK_ENTRY * blocks);
-    let mut j = 0;
-    while j < blocks {
-        let n = bases[j];
-        let at = Encoding::HEAD_BYTES + Encoding::BLOCK_ENTRY * j;
-        put8(&mut out[at..], n);
-        j += 1;
-    }
-}
-
-// Field 6, at a place behind the edges, with which the buffer begins: for each started sub-block, the set bits of its block before it. The set bits before each block are met on the way.
-fn put_sub_blocks(out: &mut [u8], at: usize, t: &[u8], b: usize, bases: &mut [usize])
-    requires { (edge_bytes b ≤ at) × (body_at at + sub_block_bytes b ≤ length out.old) × (b ≤ max_edges) × Tallies t.now × (length bases.old ≡ max_blocks) }
-    ensures out_after { out.new ≡ front (take at out.old ++ field 6 (big_endians sub_block_entry (sub_block_ones (leading b out.old)) (started sub_block_bits b))) out.old }
-    ensures based { Based (leading b out.old) (started block_bits b) bases.new }
-{
-    let len = bits::bytes_for(b);
-    let subs = bits::started_by(b, Encoding::SUB_BLOCK_BITS);
-    put_head(&mut out[at..], 6, Encoding::SUB_BLOCK_ENTRY * subs);
-    let mut seen = Seen { bytes: 0, ones: 0 };
+    let mut seen = Seen::none(edges);
     let mut base = 0;
-    let mut j = 0;
-    while j < subs {
-        seen = count_to(&out[..len], t, seen, Encoding::SUB_BLOCK_BYTES * j);
-        let n = seen.ones;
-        base = encoding::block_base(j, base, n);
-        bases[j / Encoding::SUB_BLOCKS] = base;
-        let next = at + Encoding::HEAD_BYTES + Encoding::SUB_BLOCK_ENTRY * j;
-        put2(&mut out[next..], n - base);
-        j += 1;
+    for j in 0..bits::started_by(b, Encoding::SUB_BLOCK_BITS) {
+        seen = seen.count_to(Encoding::SUB_BLOCK_BYTES * j);
+        base = encoding::block_base(j, base, seen.ones);
+        let at = Encoding::BLOCK_ENTRY * (j / Encoding::SUB_BLOCKS);
+        put::<{ Encoding::BLOCK_ENTRY }>(&mut blocks[at..], base);
+        let next = Encoding::SUB_BLOCK_ENTRY * j;
+        put::<{ Encoding::SUB_BLOCK_ENTRY }>(&mut sub_blocks[next..], seen.ones - base);
     }
 }
 
-// Field 1: the width.
-fn put_width(out: &mut [u8], m: usize)
-    requires { head_bytes + width_bytes ≤ length out.old }
-    ensures { out.new ≡ front (field 1 (big_endian width_bytes m)) out.old }
-{
-    put_head(out, 1, Encoding::WIDTH_BYTES);
-    put2(&mut out[Encoding::HEAD_BYTES..], m);
-}
-
-// Field 2: the number of members.
-fn put_count(out: &mut [u8], n: usize)
-    requires { head_bytes + count_bytes ≤ length out.old }
-    ensures { out.new ≡ front (field 2 (big_endian count_bytes n)) out.old }
-{
-    put_head(out, 2, Encoding::COUNT_BYTES);
-    put4(&mut out[Encoding::HEAD_BYTES..], n);
-}
-
-// Fields 1 to 3, each behind the one before it.
-fn put_shape(out: &mut [u8], m: usize, n: usize, ends: &[usize])
-    requires { (body_at start3 + level_bytes m ≤ length out.old) × (m ≤ max_width) × (m ≤ length ends.now) }
-    ensures { out.new ≡ front ((field 1 (big_endian width_bytes m) ++ field 2 (big_endian count_bytes n)) ++ field 3 (big_endians level_entry (λ (d : ℕ). get_or ends.now d 0) m)) out.old }
-{
-    put_width(out, m);
-    put_count(&mut out[Encoding::START2..], n);
-    put_levels(&mut out[Encoding::START3..], m, ends);
-}
-
-// Room for the set bits before each block.
-fn no_bases() -> [usize; MAX_BLOCKS]
-    ensures { length result ≡ max_blocks }
-{
-    [0usize; MAX_BLOCKS]
-}
-
-// Fields 5 and 6 behind the edges, with which the buffer begins: field 5 last, when what it says is known.
-fn put_index(out: &mut [u8], t: &[u8], b: usize)
-    requires { (edge_bytes b + head_bytes + block_bytes b + head_bytes + sub_block_bytes b ≤ length out.old) × (b ≤ max_edges) × Tallies t.now }
+// Fields 5 and 6 behind the edges, with which the buffer begins.
+fn put_index(out: &mut [u8], b: usize)
+    requires { (edge_bytes b + head_bytes + block_bytes b + head_bytes + sub_block_bytes b ≤ length out.old) × (b ≤ max_edges) }
     ensures { out.new ≡ front (indexed b (take (edge_bytes b) out.old)) out.old }
 {
-    let len = bits::bytes_for(b);
-    let blocks = bits::started_by(b, Encoding::BLOCK_BITS);
-    let mut bases = no_bases();
-    let at = len + Encoding::HEAD_BYTES + Encoding::BLOCK_ENTRY * blocks;
-    put_sub_blocks(out, at, t, b, &mut bases);
-    put_blocks(&mut out[len..], blocks, &bases);
-}
-
-// From field 4 on: its head, and what is behind the edges that stand behind the head.
-fn put_edges(out: &mut [u8], t: &[u8], b: usize)
-    requires { (head_bytes + edge_bytes b + head_bytes + block_bytes b + head_bytes + sub_block_bytes b ≤ length out.old) × (b ≤ max_edges) × Tallies t.now }
-    ensures { out.new ≡ front ((4 ∷ big_endian length_bytes (edge_bytes b)) ++ indexed b (take (edge_bytes b) (drop head_bytes out.old))) out.old }
-{
-    put_head(out, 4, bits::bytes_for(b));
-    put_index(&mut out[Encoding::HEAD_BYTES..], t, b);
+    let blocks = Encoding::BLOCK_ENTRY * bits::started_by(b, Encoding::BLOCK_BITS);
+    let sub_blocks = Encoding::SUB_BLOCK_ENTRY * bits::started_by(b, Encoding::SUB_BLOCK_BITS);
+    let (edges, index) = out.split_at_mut(bits::bytes_for(b));
+    let (field5, field6) = index.split_at_mut(Encoding::HEAD_BYTES + blocks);
+    put_head(field5, Field::Blocks, blocks);
+    put_head(field6, Field::SubBlocks, sub_blocks);
+    put_counts(
+        edges,
+        b,
+        &mut field5[Encoding::HEAD_BYTES..],
+        &mut field6[Encoding::HEAD_BYTES..],
+    );
 }
 
 // ---- The length
@@ -281,53 +155,37 @@ pub fn too_short(m: usize, b: usize, room: usize) -> bool
 }
 
 // ---- The writer
-// The length of what was written, or the refusal.
-#[derive(Clone, Copy)]
-pub enum Written {
-    Refused(u8),
-    Length(usize),
-}
-
-// Room for the levels' ends.
-fn no_ends() -> [usize; Encoding::MAX_WIDTH]
-    ensures { length result ≡ max_width }
-{
-    [0usize; Encoding::MAX_WIDTH]
-}
-
 // The encoding of the entry that edge bytes hold, at the front of a buffer in which they stand in their place already: every other field, around them.
-pub fn write_around_edges(m: usize, b: usize, t: &[u8], out: &mut [u8])
-    requires { (end_of m b ≤ length out.old) × HoldsOnly m b (standing m b out.old) × Tallies t.now }
+pub fn write_around_edges(m: usize, b: usize, out: &mut [u8])
+    requires { (end_of m b ≤ length out.old) × HoldsOnly m b (standing m b out.old) }
     ensures { out.new ≡ front (encode (entry_held m b (standing m b out.old))) out.old }
 {
-    let at = edges_start(m);
-    let end = at + bits::bytes_for(b);
-    let mut ends = no_ends();
-    let count = level_ends(&out[at..end], t, m, b, &mut ends);
-    put_shape(out, m, count, &ends);
-    let field4 = at - Encoding::HEAD_BYTES;
-    put_edges(&mut out[field4..], t, b);
+    let (before, rest) = out.split_at_mut(edges_start(m));
+    let mut room = [0usize; Encoding::MAX_WIDTH];
+    let ends = &mut room[..m];
+    let count = level_ends(&rest[..bits::bytes_for(b)], b, ends);
+    put_shape(before, b, count, ends);
+    put_index(rest, b);
 }
 
 // The same from edge bytes elsewhere, which are put in their place first.
-pub fn write_fitting(m: usize, b: usize, edges: &[u8], t: &[u8], out: &mut [u8])
-    requires { (end_of m b ≤ length out.old) × HoldsOnly m b edges.now × Tallies t.now }
+pub fn write_fitting(m: usize, b: usize, edges: &[u8], out: &mut [u8])
+    requires { (end_of m b ≤ length out.old) × HoldsOnly m b edges.now }
     ensures { out.new ≡ front (encode (entry_held m b edges.now)) out.old }
 {
     let at = edges_start(m);
-    let end = at + edges.len();
-    out[at..end].copy_from_slice(edges);
-    write_around_edges(m, b, t, out);
+    out[at..at + edges.len()].copy_from_slice(edges);
+    write_around_edges(m, b, out);
 }
 
 // The same if it fits: nothing is written before that is known.
-pub fn write(m: usize, b: usize, edges: &[u8], t: &[u8], out: &mut [u8]) -> Written
-    requires { HoldsOnly m b edges.now × Tallies t.now }
+pub fn write(m: usize, b: usize, edges: &[u8], out: &mut [u8]) -> Result<usize, Refusal>
+    requires { HoldsOnly m b edges.now }
     ensures { written_outcome result out.new ≡ (writes [] (entry_held m b edges.now ∷ []) (out.old ∷ [])).outcome }
 {
     if too_short(m, b, out.len()) {
-        return Written::Refused(loes::refusal::SHORT_BUFFER);
+        return Err(Refusal::ShortBuffer);
     }
-    write_fitting(m, b, edges, t, out);
-    Written::Length(length_of(m, b))
+    write_fitting(m, b, edges, out);
+    Ok(length_of(m, b))
 }

@@ -5,10 +5,10 @@ use Rattle.loes.specs.Model as model
 use Rattle.loes.specs.Calls.{open_call, pack_call, union_call, difference_call, split_call, contains_call, index_of_call, lower_bound_call, key_at_call, rank_call, prefix_call}
 use Rattle.loes.specs.Cursor.{Cursor, advance_call}
 use Rattle.weights.specs.Weights.{Weights, pack_weighted_call, post_call, union_weighted_call, difference_weighted_call}
-use Rattle.capi.specs.declared.Answer.{Answer}
-use Rattle.capi.specs.declared.Opened.{Opened}
-use Rattle.capi.specs.declared.Range.{Range}
-use Rattle.capi.specs.declared.Lengths.{Lengths}
+use Rattle.capi.specs.declared.answers.Answer.{Answer}
+use Rattle.capi.specs.declared.answers.Opened.{Opened}
+use Rattle.capi.specs.declared.answers.Range.{Range}
+use Rattle.capi.specs.declared.answers.Lengths.{Lengths}
 
 -- refused: the number, and nothing else
 abbrev pub refuses : ℕ → Answer

@@ -1,15 +1,20 @@
 -- A cursor and its step as C has them: a state's number and the offsets.
-use Rattle.std.specs.Prelude.{ℕ, Bool, cond, List, eqb, ltb}
+use Rattle.std.specs.Prelude.{ℕ, Bool, cond, List, eqb, ltb, Option, Some, None, Result, Ok, Err}
 use Rattle.loes.specs.Bytes.{Bytes}
 use Rattle.loes.specs.Entry.{Entry}
 use Rattle.loes.specs.Refusals.{bad_cursor}
 use Rattle.loes.specs.Read.{Reading, rejected, opened, read}
 use Rattle.loes.specs.Cursor as model
-use Rattle.cursor.specs.Steps.{numbers}
+use Rattle.loes.specs.Numbers.{number_of}
+use Rattle.loes.specs.declared.refusal.Refusal.{Refusal}
+use Rattle.cursor.specs.declared.State.{State}
+use Rattle.cursor.specs.declared.State.TheVariants as state
+use Rattle.cursor.specs.declared.Stepped.{Stepped}
+use Rattle.cursor.specs.Steps.{numbers, stepped_of}
 use Rattle.cursor.specs.Filling.{advances}
-use Rattle.capi.specs.declared.Answer.{Answer}
-use Rattle.capi.specs.declared.Cursor.{Cursor}
-use Rattle.capi.specs.declared.CursorAnswer.{CursorAnswer}
+use Rattle.capi.specs.declared.answers.Answer.{Answer}
+use Rattle.capi.specs.declared.cursors.Cursor.{Cursor}
+use Rattle.capi.specs.declared.cursors.CursorAnswer.{CursorAnswer}
 use Rattle.capi.specs.Coded.{refuses, code_of}
 
 -- a step's answer, and the cursor's state, its offsets and the output buffer at exit
@@ -41,6 +46,10 @@ state_in s = cond (eqb s 0) model.before (cond (eqb s 1) model.at model.after)
 abbrev pub cursor_in : ℕ → List ℕ → model.Cursor
 cursor_in s os = model.cursor_with (state_in s) os
 
+-- the same in the code, if there is one
+abbrev pub state_read : ℕ → Option State
+state_read s = cond (eqb s 0) (Some state.Before) (cond (eqb s 1) (Some state.At) (cond (eqb s 2) (Some state.After) None))
+
 -- a number of a state
 unfoldable pub is_state : ℕ → Bool
 is_state s = ltb s 3
@@ -51,6 +60,11 @@ step_coded a = step_gives (code_of a.answer) (state_code a.cursor.state) a.curso
 -- refused: state, offsets and buffer keep their values
 abbrev pub keeps : ℕ → ℕ → List ℕ → Bytes → StepGiven
 keeps k s os out = step_gives (refuses k) s os out
+
+-- a step by value: what it leaves, or, if it is refused, what there was
+abbrev pub stepped_coded : Result Stepped Refusal → Cursor → Bytes → StepGiven
+stepped_coded (Ok s) c out = step_coded (stepped_of s out)
+stepped_coded (Err k) c out = keeps (number_of k) c.state (numbers c.offsets) out
 
 -- the encoding's refusals, then 15 for what is no state, then what the model does with an entry, a cursor and a buffer
 unfoldable pub done_after : (Entry → model.Cursor → Bytes → model.Advanced) → Reading → ℕ → List ℕ → Bytes → StepGiven

@@ -22,7 +22,7 @@ pub struct Three {
     pub only_second: usize,
 }
 
-// ---- Marks. The union's r records and the flags of its n members stay in q. In x, y and z stand the records less the edges under which no member is in both sets, in the first only, in the second only.
+// ---- Marks. The union's r records and the flags of its n members stay in q. In x, y and z stand the records less the edges under which no member is in both sets, in the first only, in the second only. They are no struct: each is written by itself, and takes the edges of the next once it is free.
 
 // Sixteen records from record i on, of one edge each, marked by their entries, the records from record d on.
 fn mark_singles_for_three(
@@ -98,7 +98,7 @@ fn mark_record(
         marks,
         queue: q,
         records: r,
-        members,
+        flag: members.flag(),
     };
     let kept = entries.kept_record(e, d);
     records::put_record(marks, j, kept);
@@ -146,7 +146,7 @@ fn mark(
 {
     let mut i = r.0;
     let mut c = r.0 + n;
-    // no `for`: a step is of sixteen records, four or one, by what is found
+    // no `for`: a step is of sixteen records, four or one, by what is found; no struct of i and c: they fall by unlike steps
     while i > 0 {
         if restrict::has_singles(q, r, RecordIndex(i), RecordIndex(c)) {
             i -= restrict::SINGLES;

@@ -19,7 +19,9 @@ use Rattle.loes.proofs.Reading.{field_fits}
 use Rattle.encoding.specs.declared.Encoding.{Encoding}
 use Rattle.loes.specs.declared.refusal.Refusal.{Refusal}
 use Rattle.loes.specs.declared.refusal.Refusal.TheVariants.{WrongTag}
-use Rattle.encoding.specs.Fields.{body_bytes, laid_by, Fields}
+use Rattle.encoding.specs.declared.field.Field.{Field}
+use Rattle.encoding.specs.declared.field.Field.TheVariants.{Width, Count, Levels, Edges, Blocks, SubBlocks}
+use Rattle.encoding.specs.Fields.{tag_of, body_bytes, laid_by, Fields}
 
 -- ---- A tag
 -- a tag whose turn may come says its length
@@ -40,6 +42,15 @@ tag_refused t m b k h = (
     go : (c : Bool) → ◌≡◌ {A = Result ℕ Refusal} (cond c (Ok (body_bytes t m b)) (Err WrongTag)) (Err k) → k ≡ WrongTag
     go false e = cc
     go true e = cc
+
+-- a field's turn comes
+pub turn_comes : (f : Field) → (0 < tag_of f) × (tag_of f < 7)
+turn_comes Width = (omega arith, omega arith)
+turn_comes Count = (omega arith, omega arith)
+turn_comes Levels = (omega arith, omega arith)
+turn_comes Edges = (omega arith, omega arith)
+turn_comes Blocks = (omega arith, omega arith)
+turn_comes SubBlocks = (omega arith, omega arith)
 
 -- ---- Tests behind tests
 -- the first part refuses

@@ -9,8 +9,19 @@ use Rattle.loes.specs.Read.{level_bytes, edge_bytes, block_bytes, sub_block_byte
 use Rattle.loes.specs.declared.refusal.Refusal.{Refusal}
 use Rattle.loes.specs.declared.refusal.Refusal.TheVariants.{WrongTag}
 use Rattle.encoding.specs.declared.Encoding.{Encoding}
+use Rattle.encoding.specs.declared.field.Field.{Field}
+use Rattle.encoding.specs.declared.field.Field.TheVariants.{Width, Count, Levels, Edges, Blocks, SubBlocks}
 use Rattle.encoding.specs.declared.opening.Opened.{Opened}
 use Rattle.encoding.specs.Opened.{Placed}
+
+-- the tag of a field
+abbrev pub tag_of : Field → ℕ
+tag_of Width = 1
+tag_of Count = 2
+tag_of Levels = 3
+tag_of Edges = 4
+tag_of Blocks = 5
+tag_of SubBlocks = 6
 
 -- what tests in order find, of a test by the code
 abbrev pub refusal_of : Result Unit Refusal → Option ℕ

@@ -13,14 +13,16 @@ ghost use Rattle.loes.specs.Read.{level_bytes, body_at, start3, start4, end_of, 
 ghost use Rattle.loes.specs.Calls.{open_call, rank_call};
 ghost use Rattle.bits.specs.Words.{Scanned};
 ghost use Rattle.encoding.specs.Opened.{Placed, FieldsFit, Counted, edges_at};
-ghost use Rattle.encoding.specs.Fields.{body_bytes, laid_by, refusal_of, Fields, Parsed, Checks};
+ghost use Rattle.encoding.specs.Fields.{tag_of, body_bytes, laid_by, refusal_of, Fields, Parsed, Checks};
 ghost use Rattle.encoding.specs.Counting.{count_sub_block, counted_to, BlockFits};
 ghost use Rattle.encoding.specs.Agree.{Decides, EntriesAt, BlockBase, near, BytesTallied, Whole, Last, Levelled};
 ghost use Rattle.encoding.specs.Answers.{told_outcome, ranked_outcome};
 
+pub mod field;
 pub mod opening;
 
 use bits::EdgeOffset;
+use field::Field;
 use loes::Refusal;
 use opening::Opened;
 
@@ -128,9 +130,9 @@ fn laid_by(tag: u8, width: usize, bits: usize) -> Result<usize, Refusal>
 }
 
 // Tests the field whose turn it is and which begins at a place: 1 for its head, 2, 3, 1 for its body.
-fn check_field(l: &[u8], at: usize, turn: u8, width: usize, bits: usize) -> Result<(), Refusal>
-    requires { (at ≤ length l.now) × (0 < turn) × (turn < 7) × (width ≤ max_width) × (bits ≤ max_edges) }
-    ensures { refusal_of result ≡ first_of (field_tests turn (body_bytes turn width bits) l.now at) }
+fn check_field(l: &[u8], at: usize, turn: Field, width: usize, bits: usize) -> Result<(), Refusal>
+    requires { (at ≤ length l.now) × (width ≤ max_width) × (bits ≤ max_edges) }
+    ensures { refusal_of result ≡ first_of (field_tests (tag_of turn) (body_bytes (tag_of turn) width bits) l.now at) }
 {
     let left = l.len() - at;
     if left < Encoding::HEAD_BYTES {
@@ -138,7 +140,7 @@ fn check_field(l: &[u8], at: usize, turn: u8, width: usize, bits: usize) -> Resu
     }
     let tag = l[at];
     let n = laid_by(tag, width, bits)?;
-    if tag != turn {
+    if tag != turn.tag() {
         return Err(Refusal::WrongTag);
     }
     if bits::number::<2>(l, at + Encoding::TAG_BYTES) != n {
@@ -154,7 +156,7 @@ fn check_field(l: &[u8], at: usize, turn: u8, width: usize, bits: usize) -> Resu
 fn check_head(l: &[u8]) -> Result<(), Refusal>
     ensures { refusal_of result ≡ first_of (head_tests l.now) }
 {
-    check_field(l, 0, 1, 0, 0)?;
+    check_field(l, 0, Field::Width, 0, 0)?;
     let width = bits::number::<2>(l, Encoding::WIDTH_AT);
     if width == 0 {
         return Err(Refusal::BadWidth);
@@ -162,8 +164,8 @@ fn check_head(l: &[u8]) -> Result<(), Refusal>
     if Encoding::MAX_WIDTH < width {
         return Err(Refusal::BadWidth);
     }
-    check_field(l, Encoding::START2, 2, width, 0)?;
-    check_field(l, Encoding::START3, 3, width, 0)?;
+    check_field(l, Encoding::START2, Field::Count, width, 0)?;
+    check_field(l, Encoding::START3, Field::Levels, width, 0)?;
     let last = Encoding::LEVELS_AT + Encoding::LEVEL_ENTRY * (width - 1);
     if Encoding::MAX_EDGES < bits::number::<4>(l, last) {
         return Err(Refusal::TooLarge);
@@ -176,9 +178,27 @@ fn check_tail(l: &[u8], e: Encoding) -> Result<(), Refusal>
     requires { Placed e.width e.count e.bits e × (e.width ≤ max_width) × (e.bits ≤ max_edges) × (start4 e.width ≤ length l.now) }
     ensures { refusal_of result ≡ first_of (tail_tests e.width e.bits l.now) }
 {
-    check_field(l, e.edges - Encoding::HEAD_BYTES, 4, e.width, e.bits)?;
-    check_field(l, e.blocks - Encoding::HEAD_BYTES, 5, e.width, e.bits)?;
-    check_field(l, e.sub_blocks - Encoding::HEAD_BYTES, 6, e.width, e.bits)?;
+    check_field(
+        l,
+        e.edges - Encoding::HEAD_BYTES,
+        Field::Edges,
+        e.width,
+        e.bits,
+    )?;
+    check_field(
+        l,
+        e.blocks - Encoding::HEAD_BYTES,
+        Field::Blocks,
+        e.width,
+        e.bits,
+    )?;
+    check_field(
+        l,
+        e.sub_blocks - Encoding::HEAD_BYTES,
+        Field::SubBlocks,
+        e.width,
+        e.bits,
+    )?;
     if end_of(e) < l.len() {
         return Err(Refusal::TrailingBytes);
     }

@@ -1,12 +1,11 @@
 -- From two checks to a pair, and from the edges of a join to the call.
 use mathlib.Core.Path.{◌≡◌, refl, sym, ap, ap₂, ◌∙◌, subst}
-use Prim.Native.Nat.{ℕ, ◌+◌, ◌*◌, ◌-◌, ◌/◌, ◌≤◌, ◌<◌}
-use mathlib.Core.Bool.{Bool, true, false, not, cond}
+use Prim.Native.Nat.{ℕ, ◌+◌, ◌*◌, ◌/◌, ◌≤◌, ◌<◌}
+use mathlib.Core.Bool.{Bool, true, false, not}
 use mathlib.Core.List.{[], ◌∷◌}
 use native.Mathlib.Omega.{arith}
-use lib.ListN.{length, take, drop, length-drop}
+use lib.ListN.{length, replicate, length-replicate, take, drop, length-drop}
 use lib.Seq.{length-take-le}
-use Rattle.loes.proofs.Lists.{rest_is}
 use lib.Dec.{eqb}
 use Rattle.loes.specs.Limits.{max_edges}
 use Rattle.loes.specs.Bytes.{Bytes, started, pack_bits, bits_in}
@@ -14,28 +13,29 @@ use Rattle.loes.specs.Keys.{Key, either, without}
 use Rattle.loes.specs.Entry.{Entry, edges_of, edge_count, with_set, Valid}
 use mathlib.Core.Option.{none, some, some-injective}
 use Rattle.loes.specs.Refusals.{two_widths, test, first_of}
-use Rattle.loes.specs.Read.{Reading, rejected, opened, read, entry_in, start5, start6}
+use Rattle.loes.specs.Read.{Reading, rejected, opened, read, entry_in, entry_along, start5, start6}
+use Rattle.loes.specs.Entry.{of_width}
+use Rattle.loes.specs.Edges.{present}
 use Rattle.loes.specs.Held.{entry_held, Holds}
 use Rattle.loes.specs.Model.{OutcomeOf, refusal, join_tests, writes}
 use Rattle.loes.specs.Calls.{reading, after_reading}
-use Rattle.loes.proofs.Tests.{eq_yes, yes_eq, both}
+use Rattle.loes.proofs.Tests.{eq_yes, eq_no, yes_eq, both}
 use Rattle.loes.proofs.Reading.{bits_cut, along_sized}
 use Rattle.loes.proofs.Writes.{writes_refused, writes_on}
 use Rattle.loes.proofs.Bits.{length_bits_in}
 use Rattle.encoding.specs.Opened.{Opens}
-use Rattle.encoding.specs.Fields.{Checks}
-use Rattle.encoding.proofs.Opened.{opens_room, opens_valid, opens_held, opens_holds}
+use Rattle.encoding.proofs.Opened.{opens_room}
 use Rattle.encoding.specs.declared.Encoding.{Encoding}
-use Rattle.encoding.specs.declared.Checked.{Checked}
-use Rattle.encoding.specs.declared.Checked.TheVariants as checked
+use Rattle.encoding.specs.declared.opening.Opened.{Opened}
 use Rattle.records.specs.Records.{Packed}
 use Rattle.records.specs.Numbers.{overread}
 use Rattle.build.specs.Writing.{HoldsOnly}
 use Rattle.records.proofs.Sealing.{written_bits, written_room}
 use Rattle.join.specs.declared.Join.{Join}
 use Rattle.join.specs.declared.Join.TheVariants as join
-use Rattle.join.specs.declared.Pair.TheVariants as pair
-use Rattle.join.specs.Joining.{join_of, join_call, pair_of, pair_refusal, Both, Joined}
+use Rattle.merge.specs.Union.{QueueRoom}
+use Rattle.join.specs.Joining.{join_of, join_call, pair_refusal, Joined, edges_within, RoomFor}
+use Rattle.join.specs.declared.pair.Pair.{Pair}
 
 -- ---- Two checks
 reading_opened : {L : Type 0} (l : Bytes) (bufs : L) (next : Entry → OutcomeOf L) (e : Entry) → read l ≡ opened e → reading l bufs next ≡ next e
@@ -57,15 +57,19 @@ pub widths_same : (e f : Entry) → e.width ≡ f.width → first_of (join_tests
 unfolding join_tests first_of test
 widths_same e f h = rw (h, eq_yes f.width)
 
-pub both_is : (a b : Bytes) (first second : Checked) → Checks a first → Checks b second → Both a b (pair_of first second)
+pub first_rejected : (a b : Bytes) (k : ℕ) → read a ≡ rejected k → pair_refusal (read a) (read b) ≡ some k
 unfolding pair_refusal
-both_is a b (checked.Refused k) s h g = rw h
-both_is a b (checked.Opened e) (checked.Refused k) h g = rw (h.reads, g)
-both_is a b (checked.Opened e) (checked.Opened f) h g = go (eqb e.width f.width) refl
-  where
-    go : (w : Bool) → eqb e.width f.width ≡ w → Both a b (cond w (pair.Opened e f) (pair.Refused two_widths))
-    go true z = (h, g, yes_eq e.width f.width z)
-    go false z = rw (h.reads, g.reads) (widths_differ (entry_in a) (entry_in b) (sym (ap₂ eqb h.width g.width) ∙ z))
+first_rejected a b k h = rw h
+
+pub second_rejected : (a b : Bytes) (k : ℕ) (o : Opened) → o.bytes.now ≡ a → read b ≡ rejected k → pair_refusal (read a) (read b) ≡ some k
+unfolding pair_refusal
+second_rejected a b k o h g = rw (← h, o.opens.reads, g)
+
+pub widths_rejected : (a b : Bytes) (o p : Opened) → o.bytes.now ≡ a → p.bytes.now ≡ b → (o.encoding.width ≡ p.encoding.width → ⊥) → pair_refusal (read a) (read b) ≡ some two_widths
+unfolding pair_refusal
+widths_rejected a b o p h g w =
+    rw (← h, ← g, o.opens.reads, p.opens.reads)
+    (widths_differ (entry_in o.bytes.now) (entry_in p.bytes.now) (eq_no (entry_in o.bytes.now).width (entry_in p.bytes.now).width (λ z. w (o.opens.width ∙ z ∙ sym p.opens.width))))
 
 -- two encodings that are refused are refused by every call that reads both and then tests 13
 pub pair_refused : {L : Type 0} (a b : Bytes) (k : ℕ) (bufs : L) (next : Entry → Entry → OutcomeOf L) → pair_refusal (read a) (read b) ≡ some k
@@ -142,66 +146,69 @@ module _ (m k : ℕ) (l : Bytes) (j : Joined m k l) where
           whole = ap pack_bits cut_bits ∙ sym j.whole ∙ ap (λ i. take i l) (sym size);
         }
 
--- ---- The whole call on two encodings of one width
--- an encoding has fewer edges than bits
+-- ---- An encoding's edges
+-- it has fewer than bits
 pub opens_short : (l : Bytes) (e : Encoding) → Opens l e → e.bits ≤ 8 * length l
 unfolding started
 opens_short l e p = omega (arith, (opens_room l e p).edges)
 
--- behind the edges stand two more fields, so a window may read on
-pub opens_over : (l : Bytes) (e : Encoding) → Opens l e → e.bits / 2 + overread ≤ 4 * length (take (length l - e.edges) (drop e.edges l))
+-- behind them stand two more fields, so a window may read on
+pub opens_over : (l : Bytes) (e : Encoding) → Opens l e → e.bits / 2 + overread ≤ 4 * length (drop e.edges l)
 unfolding start5 start6 started
-opens_over l e p = rw (rest_is l e.edges, length-drop e.edges l) (omega (arith, (opens_room l e p).sub_blocks, p.edges, p.sub_blocks, p.bits))
+opens_over l e p = rw (length-drop e.edges l) (omega (arith, (opens_room l e p).sub_blocks, p.edges, p.sub_blocks, p.bits))
 
-module _ (kind : Join) (a b : Bytes) (e f : Encoding) (p : Opens a e) (q : Opens b f) (w : e.width ≡ f.width) where
-  abbrev pub first : Bytes
-  first = take (length a - e.edges) (drop e.edges a)
+-- of so many bytes
+pub opened_within : (o : Opened) (a : Bytes) (x : ℕ) → o.bytes.now ≡ a → x ≡ o.encoding.bits → x ≤ edges_within (length a)
+opened_within o a x h e = rw (← h, e) (let i = opens_short o.bytes.now o.encoding o.opens in let j = (opens_room o.bytes.now o.encoding o.opens).few in omega arith)
 
-  abbrev pub second : Bytes
-  second = take (length b - f.edges) (drop f.edges b)
+-- the rooms, cleared, serve what two encodings of these lengths have
+pub rooms_serve : (queue edges : ℕ) (p : Pair) (a b : Bytes) (x y : ℕ) → p.first.bytes.now ≡ a → p.second.bytes.now ≡ b → x ≡ p.first.encoding.bits → y ≡ p.second.encoding.bits
+    → RoomFor (length a) (length b) queue edges → QueueRoom x y (replicate queue 0) × (x < 8 * length {A = ℕ} (replicate edges 0))
+rooms_serve queue edges p a b x y ha hb hx hy r =
+    let i = opened_within p.first a x ha hx in
+    let j = opened_within p.second b y hb hy in
+    let long : (n : ℕ) → length {A = ℕ} (replicate n 0) ≡ n = λ n. length-replicate n 0 in
+    (record { queue = omega (arith, i, j, long queue, r.flags); small = omega (arith, long queue, r.few_flags) }, omega (arith, i, long edges, r.first))
 
-  pub first_holds : Holds e.width e.bits first
-  first_holds = rw (rest_is a e.edges) (opens_holds a e p)
+-- ---- Edges that hold an entry
+module _ {m b : ℕ} {l : Bytes} (h : Holds m b l) where
+  pub held_valid : Valid (entry_held m b l)
+  unfolding entry_held entry_along of_width edge_count
+  held_valid =
+      record {
+        positive = h.positive;
+        narrow = h.narrow;
+        sized = λ k z. yes_eq (length k) m (both (eqb (length k) m) (present (bits_in l b) k) z).0;
+        few = omega (arith, ap length h.same, length_bits_in l b, h.few);
+      }
 
-  pub second_holds : Holds e.width f.bits second
-  second_holds = rw (rest_is b f.edges, w) (opens_holds b f q)
+-- what is made of two of one width
+pub made : (kind : Join) {m n b c k : ℕ} {l r o p : Bytes} → Holds m b l → Holds n c r → m ≡ n → Packed (edges_of (join_of kind (entry_held m b l) (entry_held n c r))) o p k
+    → Joined m k p × (entry_held m k p ≡ join_of kind (entry_held m b l) (entry_held n c r))
+made kind {m} {n} {b} {c} {k} {l} {r} {o} {p} h g w d =
+    let e = entry_held m b l in
+    let f = entry_held n c r in
+    let x = join_of kind e f in
+    let wide : x.width ≡ m = join_width kind e f ∙ unfold entry_held entry_along in refl in
+    let same : e.width ≡ f.width = unfold entry_held entry_along in w in
+    let positive : 0 < x.width = rw wide h.positive in
+    let sized : (y : Key) → x.set y ≡ true → length y ≡ x.width = λ y z. join_sized kind e f (held_valid h) (held_valid g) same y z ∙ sym (join_width kind e f) in
+    subst (λ (j : ℕ). Joined j k p × (entry_held j k p ≡ x)) wide (join_joined x positive sized o p k d (omega (arith, wide, h.narrow)), join_held x positive sized o p k d)
 
-  pub first_held : entry_held e.width e.bits first ≡ entry_in a
-  first_held = rw (rest_is a e.edges) (opens_held a e p)
+-- ---- The whole call on two encodings of one width
+pub pair_alike : (p : Pair) → (entry_in p.first.bytes.now).width ≡ (entry_in p.second.bytes.now).width
+pair_alike p = sym p.first.opens.width ∙ p.one_width ∙ p.second.opens.width
 
-  pub second_held : entry_held e.width f.bits second ≡ entry_in b
-  second_held = rw (rest_is b f.edges, w) (opens_held b f q)
-
-  pub same_width : (entry_in a).width ≡ (entry_in b).width
-  same_width = sym p.width ∙ w ∙ q.width
-
-  abbrev asked : Entry
-  asked = join_of kind (entry_in a) (entry_in b)
-
-  asked_width : asked.width ≡ e.width
-  asked_width = join_width kind (entry_in a) (entry_in b) ∙ sym p.width
-
-  module _ (old new : Bytes) (k : ℕ) (r : Packed (edges_of (join_of kind (entry_held e.width e.bits first) (entry_held e.width f.bits second))) old new k) where
-    made : Packed (edges_of asked) old new k
-    made = subst (λ x. Packed (edges_of x) old new k) (ap₂ (join_of kind) first_held second_held) r
-
-    valid : Valid (entry_in a)
-    valid = opens_valid a e p
-
-    positive : 0 < asked.width
-    positive = rw (join_width kind (entry_in a) (entry_in b)) valid.positive
-
-    sized : (x : Key) → asked.set x ≡ true → length x ≡ asked.width
-    sized x h = join_sized kind (entry_in a) (entry_in b) valid (opens_valid b f q) same_width x h ∙ sym (join_width kind (entry_in a) (entry_in b))
-
-    pub joined : Joined e.width k new
-    joined = rw (← asked_width) (join_joined asked positive sized old new k made (omega (arith, join_width kind (entry_in a) (entry_in b), valid.narrow)))
-
-    pub held_asked : entry_held e.width k new ≡ asked
-    held_asked = rw (← asked_width) (join_held asked positive sized old new k made)
-
-    pub joined_call : (out : Bytes) → (writes [] (entry_held e.width k new ∷ []) (out ∷ [])).outcome ≡ join_call (join_of kind) a b out
-    joined_call out =
-        ap (λ x. (writes [] (x ∷ []) (out ∷ [])).outcome) held_asked
-        ∙ ap (λ x. x.outcome) (sym (writes_on (join_tests (entry_in a) (entry_in b)) (asked ∷ []) (out ∷ []) (widths_same (entry_in a) (entry_in b) same_width)))
-        ∙ sym (call_opened (join_of kind) a b out p.reads q.reads)
+pub joined_call : (kind asked : Join) (p : Pair) (a b out : Bytes) (x d e : Entry) → kind ≡ asked → p.first.bytes.now ≡ a → p.second.bytes.now ≡ b → d ≡ entry_in p.first.bytes.now
+    → e ≡ entry_in p.second.bytes.now → x ≡ join_of asked d e → (writes [] (x ∷ []) (out ∷ [])).outcome ≡ join_call (join_of kind) a b out
+joined_call kind asked p a b out x d e hk ha hb hd he h =
+    let w : d.width ≡ e.width = rw (hd, he) (pair_alike p) in
+    let ra : read a ≡ opened (entry_in a) = rw (← ha) p.first.opens.reads in
+    let rb : read b ≡ opened (entry_in b) = rw (← hb) p.second.opens.reads in
+    let da : d ≡ entry_in a = hd ∙ ap entry_in ha in
+    let eb : e ≡ entry_in b = he ∙ ap entry_in hb in
+    ap (λ y. (writes [] (y ∷ []) (out ∷ [])).outcome) h
+    ∙ ap (λ y. y.outcome) (sym (writes_on (join_tests d e) (join_of asked d e ∷ []) (out ∷ []) (widths_same d e w)))
+    ∙ ap₂ (λ y z. (writes (join_tests y z) (join_of asked y z ∷ []) (out ∷ [])).outcome) da eb
+    ∙ sym (call_opened (join_of asked) a b out ra rb)
+    ∙ ap (λ k. join_call (join_of k) a b out) (sym hk)

@@ -1,23 +1,20 @@
 -- Union and difference as one call, and what is known on its way.
-use Rattle.std.specs.Prelude.{◌≡◌, ℕ, ◌+◌, ◌*◌, ◌/◌, ◌<◌, ◌≤◌, cond, [], ◌∷◌, length, take, eqb}
+use Rattle.std.specs.Prelude.{◌≡◌, ℕ, min, ◌+◌, ◌*◌, ◌/◌, ◌<◌, ◌≤◌, [], ◌∷◌, length, take, Result, Ok, Err}
 use mathlib.Core.Option.{Option, some}
 use Rattle.loes.specs.Limits.{max_width, max_edges}
 use Rattle.loes.specs.Bytes.{Bytes, started, pack_bits, bits_in}
 use Rattle.loes.specs.Entry.{Entry, edges_of}
-use Rattle.loes.specs.Refusals.{two_widths, first_of}
+use Rattle.loes.specs.Refusals.{first_of}
+use Rattle.loes.specs.Numbers.{number_of}
 use Rattle.loes.specs.Read.{Reading, rejected, opened, read}
 use Rattle.loes.specs.Held.{entry_held}
 use Rattle.loes.specs.Model.{Outcome, join_tests, writes, union_entry, difference_entry}
 use Rattle.loes.specs.Calls.{reading}
-use Rattle.encoding.specs.Opened.{Opens}
+use Rattle.loes.specs.declared.refusal.Refusal.{Refusal}
 use Rattle.records.specs.Numbers.{overwrite}
-use Rattle.merge.specs.Union.{QueueRoom}
-use Rattle.encoding.specs.declared.Checked.{Checked}
-use Rattle.encoding.specs.declared.Checked.TheVariants as checked
 use Rattle.join.specs.declared.Join.{Join}
 use Rattle.join.specs.declared.Join.TheVariants as join
-use Rattle.join.specs.declared.Pair.{Pair}
-use Rattle.join.specs.declared.Pair.TheVariants as pair
+use Rattle.join.specs.declared.pair.Pair.{Pair}
 
 -- the entry that is asked for
 abbrev pub join_of : Join → Entry → Entry → Entry
@@ -28,22 +25,16 @@ join_of join.Difference = difference_entry
 unfoldable pub join_call : (Entry → Entry → Entry) → Bytes → Bytes → Bytes → Outcome
 join_call op a b out = reading a (out ∷ []) λ e. reading b (out ∷ []) λ f. (writes (join_tests e f) (op e f ∷ []) (out ∷ [])).outcome
 
--- the first refusal of two checks and of their widths
-abbrev pub pair_of : Checked → Checked → Pair
-pair_of (checked.Refused k) s = pair.Refused k
-pair_of (checked.Opened e) (checked.Refused k) = pair.Refused k
-pair_of (checked.Opened e) (checked.Opened f) = cond (eqb e.width f.width) (pair.Opened e f) (pair.Refused two_widths)
-
 -- the first refusal of two encodings: the first's, the second's, 13
 unfoldable pub pair_refusal : Reading → Reading → Option ℕ
 pair_refusal (rejected k) r = some k
 pair_refusal (opened e) (rejected k) = some k
 pair_refusal (opened e) (opened f) = first_of (join_tests e f)
 
--- they are refused, whatever is asked for, or two of one width
-abbrev pub Both : Bytes → Bytes → Pair → Type 0
-Both a b (pair.Refused k) = pair_refusal (read a) (read b) ≡ some k
-Both a b (pair.Opened e f) = Opens a e × Opens b f × (e.width ≡ f.width)
+-- they are refused, whatever is asked for, or opened
+abbrev pub Both : Bytes → Bytes → Result Pair Refusal → Type 0
+Both a b (Err k) = pair_refusal (read a) (read b) ≡ some (number_of k)
+Both a b (Ok p) = (p.first.bytes.now ≡ a) × (p.second.bytes.now ≡ b)
 
 -- k edge bits hold an entry, and what is left of their last byte is clear; they may be too many
 pub record Joined (m k : ℕ) (l : Bytes) : Type 0 where
@@ -53,16 +44,7 @@ pub record Joined (m k : ℕ) (l : Bytes) : Type 0 where
   pub same : edges_of (entry_held m k l) ≡ bits_in l k
   pub whole : take (started 8 k) l ≡ pack_bits (bits_in l k)
 
--- the rooms: for encodings of at most so many bytes, and for any two by the most edges
-abbrev pub tiny : ℕ
-tiny = 512
-
-abbrev pub small : ℕ
-small = 2048
-
-abbrev pub middle : ℕ
-middle = 16384
-
+-- the room of any two, by the most edges
 abbrev pub large : ℕ
 large = max_edges / 8
 
@@ -78,8 +60,13 @@ queue_for n = 4 * n + spare
 abbrev pub edges_for : ℕ → ℕ
 edges_for n = n + spare
 
--- room in a queue, and for the edges of a difference, for whatever two encodings of these lengths have
-pub record Rooms (x y : ℕ) (q l : Bytes) : Type 0 where
-  pub enough : (ba bb : ℕ) → ba ≤ 8 * x → ba ≤ max_edges → bb ≤ 8 * y → bb ≤ max_edges → QueueRoom ba bb q × (ba < 8 * length l)
-  pub queue : length q ≤ queue_for large
-  pub edges : length l ≤ edges_for large
+-- the most edges of an encoding of n bytes
+abbrev pub edges_within : ℕ → ℕ
+edges_within n = min (8 * n) max_edges
+
+-- a queue and room for the edges of a difference, of so many bytes, for whatever two encodings of x and y bytes have
+pub record RoomFor (x y queue edges : ℕ) : Type 0 where
+  pub flags : edges_within x + edges_within y + 1 + overwrite ≤ 4 * queue
+  pub first : edges_within x < 8 * edges
+  pub few_flags : queue ≤ queue_for large
+  pub few_edges : edges ≤ edges_for large

@@ -5,6 +5,8 @@ ghost use Rattle.std.specs.Prelude.{◌≡◌, ◌+◌, ◌*◌, ◌<◌, ◌≤
 ghost use Rattle.records.specs.Tables.{spread_entries, part_entries, run_entries, edged_entries, Spreads, Parted, Runs, Edged};
 ghost use Rattle.join_tables.specs.Entries.{FilledFrom, spread_in, spread_code, part_code, run_code};
 
+pub mod room;
+
 use records::{EdgedTable, Tables};
 
 // How many entries each table has.

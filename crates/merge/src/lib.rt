@@ -6,7 +6,7 @@ ghost use Rattle.loes.specs.Limits.{max_edges};
 ghost use Rattle.loes.specs.Bytes.{odd, bit};
 ghost use Rattle.loes.specs.Held.{entry_held};
 ghost use Rattle.records.specs.Records.{record_of_code, flag_at, flags_from, record_of_flag};
-ghost use Rattle.records.specs.Numbers.{records_of, eight_of, Short, overread, overwrite};
+ghost use Rattle.records.specs.Numbers.{records_of, eight_of, overread, overwrite};
 ghost use Rattle.merge.specs.Union.{Merged, QueueRoom, either_record, child_flags, children_of, flags_in, EightMerged, taken_record, Queued, RecordMerged, BlockMerged, LevelMerged, LevelRoom};
 
 use bits::RecordIndex;
@@ -59,32 +59,27 @@ fn merge_record(a: &[u8], b: &[u8], q: &mut [u8], i: RecordIndex, at: Positions)
     requires b_bound_2 { at.a.0 + at.b.0 ≤ max_edges }
     ensures { RecordMerged a.now b.now q.old i.0 at.a.0 at.b.0 at.tail.0 q.new result.a.0 result.b.0 result.tail.0 }
 {
-    let ia = at.a;
-    let ib = at.b;
-    let tail = at.tail;
     let f = records::record_at(q, i);
-    let x = record_if(f, a, ia);
-    let y = record_if(f / 2, b, ib);
+    let x = record_if(f, a, at.a);
+    let y = record_if(f / 2, b, at.b);
     let z = either_record(x, y);
     records::put_record(q, i, z);
-    let end = push_children(q, tail, x, y);
-    let na = ia.0 + (f % 2) as usize;
-    let nb = ib.0 + (f / 2 % 2) as usize;
+    let tail = push_children(q, at.tail, x, y);
     Positions {
-        a: RecordIndex(na),
-        b: RecordIndex(nb),
-        tail: end,
+        a: RecordIndex(at.a.0 + (f % 2) as usize),
+        b: RecordIndex(at.b.0 + (f / 2 % 2) as usize),
+        tail,
     }
 }
 
 // The flags that four records of each push.
 fn push_four(tables: Tables<'_>, x: usize, y: usize) -> Run
     requires { (x < 256) × (y < 256) }
-    ensures { (records_of (result.bits / 2) result.records ≡ map record_of_flag (children_of (records_of 4 x) (records_of 4 y))) × Short 8 result.records result.bits }
+    ensures { (records_of (result.bits / 2) result.records ≡ map record_of_flag (children_of (records_of 4 x) (records_of 4 y))) × (result.bits ≤ 16) }
 {
-    let h = tables.run_at(x / 16, y / 16);
-    let g = tables.run_at(x % 16, y % 16);
-    records::run_and(h, g)
+    let high = tables.run_at(x / 16, y / 16);
+    let low = tables.run_at(x % 16, y % 16);
+    high.followed_by(low)
 }
 
 // Eight records of the union, in two numbers, the flags that they push, and how many records were taken of each.
@@ -112,7 +107,7 @@ fn merge_eight(tables: Tables<'_>, c: u8, d: u8, x: usize, y: usize) -> Eight
     Eight {
         high: x1 | y1,
         low: x2 | y2,
-        flags: records::run_and(h, k),
+        flags: h.followed_by(k),
         first: f.first + g.first,
         second: f.second + g.second,
     }
@@ -131,19 +126,16 @@ fn merge_block(
     requires overread_bound { (at.a.0 + overread ≤ 4 * length a.now) × (at.b.0 + overread ≤ 4 * length b.now) × (at.a.0 + at.b.0 ≤ max_edges) }
     ensures { BlockMerged a.now b.now q.old j at.a.0 at.b.0 at.tail.0 q.new result.a.0 result.b.0 result.tail.0 }
 {
-    let ia = at.a;
-    let ib = at.b;
-    let tail = at.tail;
-    let x = records::window(a, ia);
-    let y = records::window(b, ib);
+    let x = records::window(a, at.a);
+    let y = records::window(b, at.b);
     let e = merge_eight(tables, q[j], q[j + 1], x, y);
     q[j] = e.high as u8;
     q[j + 1] = e.low as u8;
-    records::append(q, tail, e.flags);
+    records::append(q, at.tail, e.flags);
     Positions {
-        a: RecordIndex(ia.0 + e.first),
-        b: RecordIndex(ib.0 + e.second),
-        tail: RecordIndex(tail.0 + e.flags.bits / 2),
+        a: RecordIndex(at.a.0 + e.first),
+        b: RecordIndex(at.b.0 + e.second),
+        tail: RecordIndex(at.tail.0 + e.flags.count()),
     }
 }
 
@@ -155,10 +147,7 @@ fn has_block(i: RecordIndex, to: RecordIndex) -> bool
     requires { i.0 ≤ 4 * max_edges }
     ensures { result ≡ true → (i.0 % 4 ≡ 0) × (i.0 + 8 ≤ to.0) }
 {
-    if to.0 < i.0 + BLOCK {
-        return false;
-    }
-    i.0 % 4 == 0
+    i.0 % 4 == 0 && i.0 + BLOCK <= to.0
 }
 
 // A level of the union, record by record: its flags are in the queue from `from` on to the end.
@@ -188,6 +177,7 @@ fn merge_blocks(
     let end = start.tail;
     let mut at = start;
     let mut i = from.0;
+    // no `for`: a step is of eight records or of one, by what is found
     while i < end.0 {
         if has_block(RecordIndex(i), end) {
             at = merge_block(a, b, tables, q, i / 4, at);
@@ -218,13 +208,6 @@ fn merge_level(
     }
 }
 
-// 1 if a set of so many edges has a root, else 0.
-fn root_flag(n: usize) -> u8
-    ensures { (result ≡ bit (ltb 0 n)) × (result ≤ 1) }
-{
-    if n > 0 { 1 } else { 0 }
-}
-
 // The edge bits of a union, and its members, whose flags stand behind its records.
 #[derive(Clone, Copy)]
 pub struct Sizes {
@@ -238,7 +221,7 @@ pub fn merge(a: EdgeBytes<'_>, b: EdgeBytes<'_>, tables: Option<Tables<'_>>, q: 
     requires queue_room { QueueRoom a.bits b.bits q.old }
     ensures { Merged (entry_held a.entry.width a.entry.bits a.entry.bytes.now) (entry_held b.entry.width b.entry.bits b.entry.bytes.now) q.old q.new result.edges result.members }
 {
-    let c = root_flag(a.bits) + root_flag(b.bits) * 2;
+    let c = u8::from(a.bits > 0) + u8::from(b.bits > 0) * 2;
     let t = records::push(q, RecordIndex(0), c);
     let mut at = Positions {
         a: RecordIndex(0),
@@ -246,7 +229,7 @@ pub fn merge(a: EdgeBytes<'_>, b: EdgeBytes<'_>, tables: Option<Tables<'_>>, q: 
         tail: t,
     };
     let mut from = RecordIndex(0);
-    for d in 0..a.width {
+    for _ in 0..a.width {
         let end = at.tail;
         at = merge_level(a.bytes, b.bytes, tables, q, from, at);
         from = end;

@@ -1,6 +1,6 @@
 -- A batch and the model: its tests, and its entry
 use mathlib.Core.Path.{◌≡◌, refl, ap, ◌∙◌}
-use Prim.Native.Nat.{ℕ, zero, suc, ◌+◌, ◌*◌, ◌/◌, ◌%◌, ◌≤◌, ◌<◌}
+use Prim.Native.Nat.{ℕ, zero, suc, ◌*◌, ◌/◌, ◌%◌, ◌≤◌, ◌<◌}
 use mathlib.Core.Bool.{or-true}
 use mathlib.Core.List.{List, [], ◌∷◌, ◌++◌, flatten}
 use mathlib.Core.Option.{none, some}
@@ -11,7 +11,7 @@ use lib.ListN.{length, take, drop}
 use lib.Dec.{ltb}
 use borrow.Author.Tests.{eq-eqb, ne_eqb}
 use Rattle.loes.specs.Limits.{max_width, max_edges}
-use Rattle.loes.specs.Bytes.{Bytes, tabulate, started}
+use Rattle.loes.specs.Bytes.{Bytes, tabulate}
 use Rattle.loes.specs.Keys.{Key, less, set_of}
 use Rattle.loes.specs.Edges.{edges}
 use Rattle.loes.specs.Prefixes.{prefix_count, records_before}
@@ -19,22 +19,15 @@ use Rattle.loes.specs.Entry.{key_bytes, keys_of, count, edges_of, edge_count, wr
 use Rattle.loes.specs.Refusals.{bad_width, too_large, ragged_batch, unused_bit_set, descending, test, first_of}
 use Rattle.loes.specs.Model.{key_in, unused_set, batch_keys, rising_tests, pack_tests, batch_entry}
 use Rattle.loes.proofs.Tests.{lt_yes, lt_no, no_lt, yes_eq, not_false, neither, none_append, none_test, none_first, some_first}
-use Rattle.loes.proofs.Bits.{tabulate_ext, map_tabulate, bits_taken}
+use Rattle.loes.proofs.Bits.{tabulate_ext, map_tabulate}
 use Rattle.loes.proofs.Tree.{length_members}
 use Rattle.loes.proofs.Navigation.{length_edges_before}
 use Rattle.pack.specs.Rising.{set_below, Rising}
-use Rattle.pack.specs.Batch.{key, previous, key_tests, tests_below, Batch}
+use Rattle.pack.specs.Batch.{key, previous, key_tests, tests_below}
+use Rattle.pack.specs.Whole.{Whole}
 use Rattle.pack.specs.Packing.{edge_tests}
+use Rattle.pack.proofs.Places.{key_taken, unused_taken}
 use Rattle.pack.proofs.KeyTests.{rising, below_suc}
-
--- ---- keys of t bytes
-key_taken : (m : ℕ) (x : Bytes) → key_in m (take (key_bytes m) x) ≡ key_in m x
-unfolding key_in key_bytes started
-key_taken m x = bits_taken x ((m + 7) / 8) m (omega arith)
-
-unused_taken : (m : ℕ) (x : Bytes) → unused_set m (take (key_bytes m) x) ≡ unused_set m x
-unfolding unused_set
-unused_taken m x = rw (bits_taken x (key_bytes m) (8 * key_bytes m) (omega arith))
 
 -- ---- tests from the front, and from behind
 unfoldable last_key : ℕ → Key → List Bytes → Key
@@ -94,7 +87,7 @@ module _ (m : ℕ) (l : Bytes) where
     ragged h = rw (lt_no m 1 positive, lt_no max_width m narrow, ne_eqb (length l % key_bytes m) 0 h)
 
     module _ (even : length l % key_bytes m ≡ 0) where
-      pub batch_is : Batch m (key_bytes m) keys l
+      pub batch_is : Whole m (key_bytes m) keys l
       batch_is = record { positive = positive; narrow = narrow; size = refl; whole = omega (arith, div-add-mod (length l) (key_bytes m)) }
 
       after_keys : first_of (edge_tests m l) ≡ first_of (tests_below m l keys ++ test (too_many_edges (edge_count (batch_entry m l))) too_large ∷ [])
@@ -115,9 +108,10 @@ module _ (m : ℕ) (l : Bytes) where
 
 -- ---- what an accepted batch has
 pub record Clean (m : ℕ) (l : Bytes) : Type 0 where
-  pub batch : Batch m (key_bytes m) (keys m l) l
+  pub batch : Whole m (key_bytes m) (keys m l) l
   pub rises : Rising m (keys m l) (key m l)
   pub few : edge_count (batch_entry m l) ≤ max_edges
+  pub even : length l % key_bytes m ≡ 0
 
 pub clean : (m : ℕ) (l : Bytes) → first_of (edge_tests m l) ≡ none → Clean m l
 unfolding edge_tests pack_tests wrong_width too_many_edges batch_keys
@@ -131,4 +125,5 @@ clean m l e =
       batch = batch_is m l (no_lt m 1 z.0) (no_lt max_width m z.1) even;
       rises = rising m l (keys m l) (rw (rising_below m l (keys m l)) at r.1);
       few = no_lt max_edges _ (none_test _ _ _ a.1).0;
+      even = even;
     }

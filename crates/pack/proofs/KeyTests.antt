@@ -1,5 +1,5 @@
 -- The tests of a batch, key by key
-use mathlib.Core.Path.{◌≡◌, refl, sym, ap, ◌∙◌}
+use mathlib.Core.Path.{◌≡◌, refl, sym, ◌∙◌}
 use Prim.Native.Nat.{ℕ, zero, suc, ◌*◌, ◌<◌}
 use mathlib.Core.Bool.{Bool, true, false}
 use mathlib.Core.List.{◌++◌, flatten}
@@ -16,26 +16,33 @@ use Rattle.loes.proofs.Tests.{none_append, none_test, none_first, some_first}
 use Rattle.loes.proofs.WellFormed.{flatten_snoc}
 use Rattle.loes.proofs.Histories.{length_key}
 use Rattle.pack.specs.Rising.{Rising}
-use Rattle.pack.specs.Batch.{key, previous, key_tests, tests_below, KeyThere}
-use Rattle.pack.proofs.Places.{lent, lent_is}
+use Rattle.pack.specs.declared.batch.Batch.{Batch}
+use Rattle.pack.specs.Batch.{key, key_at, previous, key_tests, tests_below}
+use Rattle.pack.proofs.Places.{unused_at}
 
 -- ---- one key
-module _ (m t i : ℕ) (l : Bytes) (there : KeyThere m t i l) where
-  unused_at : (b : Bool) → b ≡ unused_set m (lent l (t * i)) → unused_set m (drop (key_bytes m * i) l) ≡ b
-  unused_at b e = sym (e ∙ ap (unused_set m) (lent_is l (t * i) ∙ ap (λ x. drop (x * i) l) there.size))
+module _ (batch : Batch) (i : ℕ) where
+  abbrev m : ℕ
+  m = batch.width
 
-  pub unused_refused : true ≡ unused_set m (lent l (t * i)) → first_of (key_tests m l i) ≡ some unused_bit_set
+  abbrev l : Bytes
+  l = batch.bytes.now
+
+  unused_is : (b : Bool) → b ≡ unused_set m (key_at batch i) → unused_set m (drop (key_bytes m * i) l) ≡ b
+  unused_is b e = sym (e ∙ unused_at batch i)
+
+  pub unused_refused : true ≡ unused_set m (key_at batch i) → first_of (key_tests m l i) ≡ some unused_bit_set
   unfolding key_tests first_of test
-  unused_refused e = rw (unused_at true e)
+  unused_refused e = rw (unused_is true e)
 
-  module _ (used : false ≡ unused_set m (lent l (t * i))) where
+  module _ (used : false ≡ unused_set m (key_at batch i)) where
     pub descending_refused : true ≡ less (key m l i) (previous (key m l) i) → first_of (key_tests m l i) ≡ some descending
     unfolding key_tests first_of test
-    descending_refused e = rw (unused_at false used, ← e)
+    descending_refused e = rw (unused_is false used, ← e)
 
     pub key_passes : false ≡ less (key m l i) (previous (key m l) i) → first_of (key_tests m l i) ≡ none
     unfolding key_tests first_of test
-    key_passes e = rw (unused_at false used, ← e)
+    key_passes e = rw (unused_is false used, ← e)
 
 -- ---- the keys below n
 module _ (m : ℕ) (l : Bytes) where

@@ -1,6 +1,6 @@
 -- Levels on which each key has a record of its own, marked key after key
 use mathlib.Core.Path.{◌≡◌, refl, sym, ap, ◌∙◌}
-use Prim.Native.Nat.{ℕ, zero, suc, ◌+◌, ◌-◌, ◌*◌, ◌≤◌, ◌<◌}
+use Prim.Native.Nat.{ℕ, zero, suc, ◌+◌, ◌*◌, ◌≤◌, ◌<◌}
 use mathlib.Core.Bool.{Bool, true, false, cond}
 use mathlib.Core.List.{List, [], ◌++◌, append_assoc, append-nil}
 use native.Mathlib.Omega.{arith}
@@ -9,16 +9,16 @@ use lib.ListN.{length, drop, get_or, set, replicate, drop_of_length-le}
 use lib.Seq.{drop-append-le}
 use lib.Dec.{ltb}
 use borrow.Author.Tests.{lt-ltb, le-ltb}
-use Rattle.loes.specs.Bytes.{Bytes, bit_at, started, pack_bits}
+use Rattle.loes.specs.Bytes.{Bytes, started, pack_bits}
 use Rattle.loes.specs.Keys.{Key, KeySet}
 use Rattle.loes.specs.Edges.{record_bits, edges}
 use Rattle.loes.specs.Prefixes.{prefix_count, records_before}
-use Rattle.loes.specs.Entry.{key_bytes}
 use Rattle.pack.specs.Rising.{first_new, set_below, Rising}
-use Rattle.pack.specs.Marking.{max_records, set_bits, row_offset, Row, Gap}
-use Rattle.pack.specs.Batch.{key, Markable, Apart, edges_from}
+use Rattle.pack.specs.Marking.{max_records, set_bits, Gap}
+use Rattle.pack.specs.Batch.{key, Markable, Apart, edges_from, row_offset, Row}
+use Rattle.pack.specs.declared.batch.Batch.{Batch}
+use Rattle.pack.proofs.Places.{bit_in}
 use Rattle.pack.proofs.Grow.{insert, inhabited_none, below_zero, below_suc, in_below}
-use Rattle.pack.proofs.Prefixes.{key_bit}
 use Rattle.pack.proofs.Marked.{marked, marked_edges, length_edges, edges_ext, edges_all, edge_offset, edges_set, split_at, split_all}
 use Rattle.pack.proofs.Pass.{edges_none, mark_start, new_le, offset_is}
 use Rattle.pack.proofs.SetBits.{packed_set}
@@ -102,9 +102,15 @@ module _ (m n : ℕ) (f : ℕ → Key) (r : Rising m n f) where
       b ∙ ap (set_bits o 0 n) (a ∙ ap pack_bits (row_first e)) ∙ row_marked e o l at n (omega arith) ∙ ap pack_bits (row_last e)
 
 -- ---- of a batch
-module _ (m t n : ℕ) (l : Bytes) (cursors : List ℕ) (k : Markable m t n l cursors) where
+module _ (batch : Batch) (cursors : List ℕ) (k : Markable batch cursors) where
+  abbrev m : ℕ
+  m = batch.width
+
+  abbrev n : ℕ
+  n = batch.count
+
   abbrev K : ℕ → Key
-  K = key m l
+  K = key m batch.bytes.now
 
   abbrev whole : KeySet
   whole = set_below K n
@@ -142,18 +148,16 @@ module _ (m t n : ℕ) (l : Bytes) (cursors : List ℕ) (k : Markable m t n l cu
       own : (i : ℕ) → i ≤ n → prefix_count e m (set_below K i) ≡ i
       own = own_record m n K k.rising top e (all_new m n K k.rising top (omega arith) (a.each (omega arith))) q h
 
-      pub row_there : (edges : Bytes) → length edges ≡ started 8 (2 * records_before m m whole) → Row t n e (get_or cursors e 0) l edges
-      unfolding started key_bytes
+      pub row_there : (edges : Bytes) → length edges ≡ started 8 (2 * records_before m m whole) → Row batch n e (get_or cursors e 0) edges
+      unfolding started
       row_there edges long =
           record {
-            whole = omega (arith, k.batch.whole);
-            inside = omega (arith, k.batch.size);
+            whole = omega arith;
+            inside = h;
             fit = omega (arith, k.starts e h, records_le e m whole h, own n (omega arith), long);
             small = omega (arith, k.few, long);
           }
 
-      pub row_offset_lem : (i : ℕ) → i < n → row_offset t l e (get_or cursors e 0) i ≡ edge_offset e (K i) m whole
+      pub row_offset_lem : (i : ℕ) → i < n → row_offset batch e (get_or cursors e 0) i ≡ edge_offset e (K i) m whole
       unfolding row_offset
-      row_offset_lem i g =
-          let b : bit_at (drop (t * i) l) e ≡ get_or (K i) e false = ap (λ x. bit_at (drop (x * i) l) e) k.batch.size ∙ sym (key_bit m (drop (key_bytes m * i) l) e h) in
-          rw b (omega (arith, k.starts e h, offset_is m n K k.rising i e g h, own (suc i) g))
+      row_offset_lem i g = rw (bit_in batch i e h) (omega (arith, k.starts e h, offset_is m n K k.rising i e g h, own (suc i) g))

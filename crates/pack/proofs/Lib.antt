@@ -17,3 +17,4 @@ pub mod Valid
 pub mod Plans
 pub mod Calls
 pub mod Written
+pub mod Masks

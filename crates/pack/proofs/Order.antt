@@ -1,6 +1,6 @@
 -- The order of two keys, by the first bit in which they differ
 use mathlib.Core.Path.{◌≡◌, refl, sym, ◌∙◌}
-use Prim.Native.Nat.{ℕ, zero, suc, ◌-◌, ◌*◌, ◌≤◌, ◌<◌}
+use Prim.Native.Nat.{ℕ, zero, suc, ◌-◌, ◌≤◌, ◌<◌}
 use mathlib.Core.Bool.{true, false, false≢true}
 use mathlib.Core.List.{[], ◌∷◌}
 use native.Mathlib.Omega.{arith}
@@ -9,9 +9,9 @@ use Rattle.loes.specs.Bytes.{Bytes, bit_at}
 use Rattle.loes.specs.Keys.{Key, less}
 use Rattle.loes.proofs.Histories.{length_key}
 use Rattle.pack.specs.Rising.{common_prefix, first_new, Rising}
-use Rattle.pack.specs.Batch.{key, previous, KeyThere}
-use Rattle.pack.proofs.Prefixes.{key_bit}
-use Rattle.pack.proofs.Places.{lent, lent_is, new_after}
+use Rattle.pack.specs.declared.batch.Batch.{Batch}
+use Rattle.pack.specs.Batch.{key, key_at, previous}
+use Rattle.pack.proofs.Places.{bit_in, new_after}
 
 less_at : (j k : Key) → length j ≡ length k → common_prefix j k < length j → less k j ≡ get_or j (common_prefix j k) false
 unfolding less common_prefix
@@ -63,7 +63,13 @@ pub first_rises : (f : ℕ → Key) (i : ℕ) → i ≡ 0 → false ≡ less (f 
 unfolding previous
 first_rises f i e = rw e (sym (less_nil (f 0)))
 
-module _ (m t i new : ℕ) (l : Bytes) (there : KeyThere m t i l) (n : i ≡ 0 → ⊥) (is : new ≡ first_new (key m l) i) where
+module _ (batch : Batch) (i new : ℕ) (n : i ≡ 0 → ⊥) (is : new ≡ first_new (key batch.width batch.bytes.now) i) where
+  abbrev m : ℕ
+  m = batch.width
+
+  abbrev l : Bytes
+  l = batch.bytes.now
+
   abbrev old : Key
   old = key m l (i - 1)
 
@@ -82,9 +88,8 @@ module _ (m t i new : ℕ) (l : Bytes) (there : KeyThere m t i l) (n : i ≡ 0 �
   pub all_common : m < new → false ≡ less (key m l i) (previous (key m l) i)
   all_common h = rw (previous_after (key m l) i n) (sym (less_none old (key m l i) same_long (omega (arith, common, long))))
 
-  pub old_bit : new ≤ m → bit_at (lent l (t * (i - 1))) (new - 1) ≡ less (key m l i) (previous (key m l) i)
+  pub old_bit : new ≤ m → bit_at (key_at batch (i - 1)) (new - 1) ≡ less (key m l i) (previous (key m l) i)
   old_bit h =
       let z : common_prefix old (key m l i) ≡ new - 1 = omega (arith, common) in
       let q : common_prefix old (key m l i) < length old = omega (arith, common, long) in
-      rw (previous_after (key m l) i n, less_at old (key m l i) same_long q, z, lent_is l (t * (i - 1)), there.size)
-      (sym (key_bit m _ (new - 1) (omega (arith, common))))
+      rw (previous_after (key m l) i n, less_at old (key m l i) same_long q, z) (bit_in batch (i - 1) (new - 1) (omega (arith, common)))

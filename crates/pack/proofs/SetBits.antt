@@ -129,6 +129,10 @@ bits_join o from a (suc b) l =
     let w : from + a + b ≡ from + (a + b) = omega arith in
     rw (bits_join o from a b l, z, w)
 
+-- b edges more behind the first a
+pub more : (o : ℕ → ℕ) (a b : ℕ) (l cur new : List ℕ) → cur ≡ set_bits o 0 a l → new ≡ set_bits o a b cur → new ≡ set_bits o 0 (a + b) l
+more o a b l cur new e q = q ∙ ap (set_bits o a b) e ∙ let z : 0 + a ≡ a = omega arith in rw z at (bits_join o 0 a b l)
+
 pub bits_all : (o : ℕ → ℕ) (new m : ℕ) (l cur : List ℕ) → new ≤ m → cur ≡ set_bits o (new - 1) (new - (new - 1)) l → set_bits o new (m - new) cur ≡ set_bits o (new - 1) (m - (new - 1)) l
 bits_all o new m l cur h e =
     let z : new - 1 + (new - (new - 1)) ≡ new = omega arith in

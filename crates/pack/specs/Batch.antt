@@ -1,9 +1,9 @@
 -- A batch: its keys, and what is tested of them.
-use Rattle.std.specs.Prelude.{◌≡◌, ℕ, zero, suc, ◌-◌, ◌*◌, ◌/◌, ◌^◌, ◌<◌, ◌≤◌, Bool, false, length, get_or, drop, replicate}
+use Rattle.std.specs.Prelude.{◌≡◌, ℕ, zero, suc, ◌+◌, ◌-◌, ◌*◌, ◌/◌, ◌^◌, ◌<◌, ◌≤◌, Bool, false, length, get_or, take, drop, replicate, Result, Ok, Err}
 use mathlib.Core.List.{List, [], ◌++◌, flatten}
 use mathlib.Core.Option.{none, some}
-use Rattle.loes.specs.Limits.{max_width}
-use Rattle.loes.specs.Bytes.{Bytes, odd, tabulate, started}
+use Rattle.loes.specs.Limits.{max_edges}
+use Rattle.loes.specs.Bytes.{Bytes, odd, bit, bit_at, tabulate, started}
 use Rattle.loes.specs.Keys.{Key, KeySet}
 use Rattle.loes.specs.Edges.{edges}
 use Rattle.loes.specs.Prefixes.{prefix_count, records_before}
@@ -12,8 +12,9 @@ use Rattle.loes.specs.Refusals.{Tests, first_of}
 use Rattle.loes.specs.Model.{key_in, pair_tests}
 use Rattle.pack.specs.Rising.{first_new, set_below, Rising}
 use Rattle.pack.specs.Marking.{max_records}
-use Rattle.pack.specs.declared.Verdict.{Verdict}
-use Rattle.pack.specs.declared.Verdict.TheVariants.{Refused, Accepted}
+use Rattle.loes.specs.Numbers.{number_of}
+use Rattle.loes.specs.declared.refusal.Refusal.{Refusal}
+use Rattle.pack.specs.declared.batch.Batch.{Batch}
 
 -- the bytes agree below n, which is t or a place where they differ
 pub record SameBytes (x y : Bytes) (t n : ℕ) : Type 0 where
@@ -27,16 +28,16 @@ pub record FirstDifference (p q n : ℕ) : Type 0 where
   pub each : (i : ℕ) → i < n → odd (p / 2 ^ (7 - i)) ≡ odd (q / 2 ^ (7 - i))
   pub differ : odd (p / 2 ^ (7 - n)) ≡ odd (q / 2 ^ (7 - n)) → ⊥
 
--- key i of a batch
+-- key i of keys of m bits, laid end to end
 abbrev pub key : ℕ → Bytes → ℕ → Key
 key m l i = key_in m (drop (key_bytes m * i) l)
 
--- the batch has a key i, of t bytes
-pub record KeyThere (m t i : ℕ) (l : Bytes) : Type 0 where
-  pub positive : 0 < m
-  pub narrow : m ≤ max_width
-  pub size : t ≡ key_bytes m
-  pub there : t * suc i ≤ length l
+-- the bytes of key i, and the set of all keys
+unfoldable pub key_at : Batch → ℕ → Bytes
+key_at batch i = take batch.size (drop (batch.size * i) batch.bytes.now)
+
+abbrev pub members : Batch → KeySet
+members batch = set_below (key batch.width batch.bytes.now) batch.count
 
 -- the key before key i: nothing before the first
 unfoldable pub previous : (ℕ → Key) → ℕ → Key
@@ -51,41 +52,27 @@ unfoldable pub tests_below : ℕ → Bytes → ℕ → Tests
 tests_below m l n = flatten (tabulate (key_tests m l) n)
 
 -- key i is refused, or its first new length is told
-abbrev pub KeyChecked : ℕ → Bytes → ℕ → Verdict → Type 0
-KeyChecked m l i (Refused k) = first_of (key_tests m l i) ≡ some k
-KeyChecked m l i (Accepted e) = (first_of (key_tests m l i) ≡ none) × (e ≡ first_new (key m l) i)
+abbrev pub KeyChecked : ℕ → Bytes → ℕ → Result ℕ Refusal → Type 0
+KeyChecked m l i (Err k) = first_of (key_tests m l i) ≡ some (number_of k)
+KeyChecked m l i (Ok e) = (first_of (key_tests m l i) ≡ none) × (e ≡ first_new (key m l) i)
 
--- a batch of n keys of t bytes
-pub record Batch (m t n : ℕ) (l : Bytes) : Type 0 where
-  pub positive : 0 < m
-  pub narrow : m ≤ max_width
-  pub size : t ≡ key_bytes m
-  pub whole : length l ≡ t * n
-
--- whose records are to be counted
-pub record Uncounted (m t n : ℕ) (l : Bytes) (counts : List ℕ) : Type 0 where
-  pub batch : Batch m t n l
-  pub long : m ≤ length counts
-  pub zero : (e : ℕ) → e < m → get_or counts e 0 ≡ 0
-
--- a key is refused, or all n pass and the records of each level are counted
-abbrev pub RecordsCounted : ℕ → ℕ → Bytes → List ℕ → Verdict → Type 0
-RecordsCounted m n l counts (Refused k) = first_of (tests_below m l n) ≡ some k
-RecordsCounted m n l counts (Accepted b) =
-    (first_of (tests_below m l n) ≡ none) × ((e : ℕ) → e < m → get_or counts e 0 ≡ prefix_count e m (set_below (key m l) n)) × (b ≡ n)
+-- a key is refused, or all pass and the records of each level are counted
+abbrev pub RecordsCounted : Batch → List ℕ → Result Unit Refusal → Type 0
+RecordsCounted batch counts (Err k) = first_of (tests_below batch.width batch.bytes.now batch.count) ≡ some (number_of k)
+RecordsCounted batch counts (Ok u) =
+    (first_of (tests_below batch.width batch.bytes.now batch.count) ≡ none) × ((e : ℕ) → e < batch.width → get_or counts e 0 ≡ prefix_count e batch.width (members batch))
 
 -- rising keys to be marked: each cursor is at its level's first record
-pub record Markable (m t n : ℕ) (l : Bytes) (cursors : List ℕ) : Type 0 where
-  pub batch : Batch m t n l
-  pub rising : Rising m n (key m l)
-  pub long : m ≤ length cursors
-  pub starts : (e : ℕ) → e < m → get_or cursors e 0 ≡ records_before e m (set_below (key m l) n)
-  pub few : records_before m m (set_below (key m l) n) ≤ max_records
+pub record Markable (batch : Batch) (cursors : List ℕ) : Type 0 where
+  pub rising : Rising batch.width batch.count (key batch.width batch.bytes.now)
+  pub long : batch.width ≤ length cursors
+  pub starts : (e : ℕ) → e < batch.width → get_or cursors e 0 ≡ records_before e batch.width (members batch)
+  pub few : records_before batch.width batch.width (members batch) ≤ max_records
 
 -- and the edge bytes are clear
-pub record Unmarked (m t n : ℕ) (l : Bytes) (cursors : List ℕ) (edges : Bytes) : Type 0 where
-  pub keys : Markable m t n l cursors
-  pub clear : edges ≡ replicate (started 8 (2 * records_before m m (set_below (key m l) n))) 0
+pub record Unmarked (batch : Batch) (cursors : List ℕ) (edges : Bytes) : Type 0 where
+  pub keys : Markable batch cursors
+  pub clear : edges ≡ replicate (started 8 (2 * records_before batch.width batch.width (members batch))) 0
 
 -- top is m, or level top has n records
 pub record Apart (m n top : ℕ) (s : KeySet) : Type 0 where
@@ -95,3 +82,15 @@ pub record Apart (m n top : ℕ) (s : KeySet) : Type 0 where
 -- the edges of the levels from one on; those before it are clear
 unfoldable pub edges_from : ℕ → ℕ → KeySet → List Bool
 edges_from top m s = replicate (2 * records_before top m s) false ++ drop (2 * records_before top m s) (edges m s)
+
+-- ---- A level on which each key has a record of its own
+-- where key i has its edge of level e, whose first record is given
+unfoldable pub row_offset : Batch → ℕ → ℕ → ℕ → ℕ
+row_offset batch e first i = 2 * (first + i) + bit (bit_at (key_at batch i) e)
+
+-- the first n keys have such an edge, and it lies in the edge bytes
+pub record Row (batch : Batch) (n e first : ℕ) (edges : Bytes) : Type 0 where
+  pub whole : n ≤ batch.count
+  pub inside : e < batch.width
+  pub fit : 2 * (first + n) ≤ 8 * length edges
+  pub small : length edges ≤ max_edges / 8

@@ -1,9 +1,10 @@
 -- Records counted by level, and bits set in edge bytes.
-use Rattle.std.specs.Prelude.{◌≡◌, ℕ, zero, suc, ◌+◌, ◌-◌, ◌/◌, ◌%◌, ◌^◌, ◌*◌, ◌<◌, ◌≤◌, true, cond, List, length, get_or, set, drop, leb}
+use Rattle.std.specs.Prelude.{◌≡◌, ℕ, zero, suc, ◌+◌, ◌-◌, ◌/◌, ◌%◌, ◌^◌, ◌*◌, ◌<◌, ◌≤◌, true, cond, List, length, get_or, set, leb, Result, Ok, Err}
 use Rattle.loes.specs.Limits.{max_edges}
 use Rattle.loes.specs.Bytes.{Bytes, bit, bit_at, tabulate}
 use Rattle.loes.specs.Entry.{key_bytes}
-use Rattle.bits.specs.Tables.{Table}
+use Rattle.loes.specs.declared.refusal.Refusal.{Refusal}
+use Rattle.loes.specs.declared.refusal.Refusal.TheVariants.{TooLarge}
 
 -- one more from a level on
 pub record Bumped (from m : ℕ) (old new : List ℕ) : Type 0 where
@@ -23,15 +24,10 @@ running l m = tabulate (λ (e : ℕ). sum_below l (suc e)) m
 abbrev pub max_records : ℕ
 max_records = max_edges / 2
 
--- of the records of each level: those before it, and r in all, unless there is no room for so many
-pub record Starts (m : ℕ) (counts starts : List ℕ) (r : ℕ) : Type 0 where
-  pub total : r ≤ max_records → r ≡ sum_below counts m
-  pub each : r ≤ max_records → (e : ℕ) → e < m → get_or starts e 0 ≡ sum_below counts e
-  pub over : max_records < r → max_records < sum_below counts m
-
--- a lent table: for each bit of a byte, the byte with that bit alone
-abbrev pub Masks : List ℕ → Type 0
-Masks t = Table (λ (k : ℕ). 2 ^ (7 - k)) 8 t
+-- of the records of each of m levels: those before it, and how many there are in all, unless there is no room for so many
+abbrev pub Starts : ℕ → List ℕ → List ℕ → Result ℕ Refusal → Type 0
+Starts m counts starts (Ok r) = (r ≤ max_records) × (r ≡ sum_below counts m) × ((e : ℕ) → e < m → get_or starts e 0 ≡ sum_below counts e)
+Starts m counts starts (Err k) = (k ≡ TooLarge) × (max_records < sum_below counts m)
 
 -- bytes with bit o set
 unfoldable pub set_bit : Bytes → ℕ → Bytes
@@ -66,17 +62,6 @@ pub record KeyFits (m new : ℕ) (key : Bytes) (cursors : List ℕ) (edges : Byt
   pub later : 0 < new → new ≤ m → bit_at key (new - 1) ≡ true
 
 -- ---- A level on which each key has a record of its own
--- where key i of a batch has its edge of level e, whose first record is given
-unfoldable pub row_offset : ℕ → Bytes → ℕ → ℕ → ℕ → ℕ
-row_offset t l e first i = 2 * (first + i) + bit (bit_at (drop (t * i) l) e)
-
--- the batch has n keys with such an edge, and it lies in the edge bytes
-pub record Row (t n e first : ℕ) (l edges : Bytes) : Type 0 where
-  pub whole : t * n ≤ length l
-  pub inside : e / 8 < t
-  pub fit : 2 * (first + n) ≤ 8 * length edges
-  pub small : length edges ≤ max_edges / 8
-
 -- of the records before each level: r is m, or level r, which is not the last, has n records
 pub record Gap (m n : ℕ) (starts : List ℕ) (r : ℕ) : Type 0 where
   pub most : r ≤ m

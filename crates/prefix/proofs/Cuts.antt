@@ -11,6 +11,7 @@ use Rattle.loes.specs.Edges.{edges, rank}
 use Rattle.loes.specs.Prefixes.{inhabited, prefixes_before, records_before, record_index}
 use Rattle.loes.specs.Entry.{Entry, edges_of, edge_count, Valid}
 use Rattle.loes.specs.Encode.{level_end}
+use Rattle.loes.specs.Read.{entry_in}
 use Rattle.loes.specs.Model.{count_before, count_under}
 use Rattle.loes.proofs.Lists.{rank_le, rank_suc, rank_more}
 use Rattle.loes.proofs.Bits.{length_bits_in}
@@ -18,6 +19,8 @@ use Rattle.loes.proofs.Tree.{has_prefix, before_le, before_lt, prefix_shorter, f
 use Rattle.loes.proofs.Navigation.{length_edges_before, rank_level, nav_bit}
 use Rattle.loes.proofs.Seven.{count_le, level_le}
 use Rattle.loes.proofs.Ranges.{range_fits, range_end}
+use Rattle.encoding.specs.declared.Encoding.{Encoding}
+use Rattle.encoding.specs.Opened.{Opens}
 use Rattle.query.specs.Descent.{edge_from, Way}
 use Rattle.query.proofs.Descent.{record_step, inhabited_some}
 use Rattle.query.proofs.Levels.{way_found}
@@ -89,6 +92,9 @@ pub record Descended (e : Entry) (x : Bytes) (p w b r : ℕ) (f : Bool) : Type 0
   pub width : w ≡ e.width
   pub bits : b ≡ edge_count e
   pub some : 0 < b
+
+pub descended : (l x : Bytes) (e : Encoding) → Opens l e → (p : ℕ) → p ≤ e.width → 0 < e.bits → (r : ℕ) (f : Bool) → Way (entry_in l) x p r f → Descended (entry_in l) x p e.width e.bits r f
+descended l x e o p s n r f w = record { way = w; short = s; width = o.width; bits = o.bits; some = n }
 
 module _ {e : Entry} {x : Bytes} {p w b r : ℕ} {f : Bool} (d : Descended e x p w b r f) where
   size : length (bits_in x p) ≤ e.width

@@ -1,8 +1,10 @@
 -- What the answer says in the specification's words.
+use Rattle.std.specs.Prelude.{Result, Ok, Err}
+use Rattle.loes.specs.Numbers.{number_of}
 use Rattle.loes.specs.Model.{Outcome, refused, range_is, saying}
-use Rattle.prefix.specs.declared.Prefixed.{Prefixed}
-use Rattle.prefix.specs.declared.Prefixed.TheVariants.{Refused, Range}
+use Rattle.loes.specs.declared.refusal.Refusal.{Refusal}
+use Rattle.prefix.specs.declared.Span.{Span}
 
-abbrev pub prefixed_outcome : Prefixed → Outcome
-prefixed_outcome (Refused k) = saying (refused k)
-prefixed_outcome (Range i n) = saying (range_is i.0 n)
+abbrev pub prefixed_outcome : Result Span Refusal → Outcome
+prefixed_outcome (Err k) = saying (refused (number_of k))
+prefixed_outcome (Ok s) = saying (range_is s.first.0 s.count)

@@ -182,7 +182,7 @@ fn print_page(rt: &impl Print, page: &mut Page<'_>) -> io::Result<()>
     Ok(())
 }
 
-// Prints the lines of the members, page by page, and returns the index that it came to.
+// Prints the lines of the members, page by page, and returns the index that it came to. No `for`: how many go to a page is the page's to say.
 fn print_members(rt: &impl Print, o: Opened<'_>) -> io::Result<MemberIndex>
     ensures { IfOk result (λ to. to.0 ≡ count (entry_in o.entry.bytes.now)) }
 {

@@ -47,7 +47,7 @@ impl<'a> Page<'a> {
         self.index = MemberIndex(self.index.0 + 1);
     }
 
-    // More lines, while members are left and there is room for any line.
+    // More lines, while members are left and there is room for any line: no `for`, since either may end first.
     pub fn fill(&mut self, text: &mut [u8])
         requires { self.old.length ≤ length text.old }
         ensures { (self.new.opened ≡ self.old.opened) × Fills (entry_in self.old.opened.bytes.now) self.old text.old self.new text.new × Full (entry_in self.old.opened.bytes.now) self.new text.new }

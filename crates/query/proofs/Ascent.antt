@@ -7,7 +7,11 @@ use native.Mathlib.Omega.{arith}
 use native.Mathlib.Decide.{dec_le}
 use lib.ListN.{length, take, drop, get_or, set, length-append, length-drop, length-set, get_or-append}
 use lib.Seq.{take_all, length-take-le, ext_get_or, get_or-append-add, get_or-drop, get_or-set_same, get_or-set_other}
-use Rattle.loes.specs.Bytes.{odd, front}
+use Rattle.loes.specs.Bytes.{Bytes, odd, front}
+use Rattle.loes.specs.Read.{entry_in}
+use Rattle.encoding.specs.declared.Encoding.{Encoding}
+use Rattle.encoding.specs.Opened.{Opens}
+use Rattle.encoding.proofs.Opened.{opens_valid}
 use Rattle.loes.specs.Keys.{Key, KeySet}
 use Rattle.loes.specs.Limits.{max_edges}
 use Rattle.loes.specs.Edges.{ones, rank, edges, edges_before, edge_offsets}
@@ -148,6 +152,15 @@ pub record UpTo (e : Entry) (i d r : ℕ) (os₀ os : List ℕ) : Type 0 where
   pub size : length os ≡ length os₀
   pub done : (j : ℕ) → d ≤ j → j < e.width → get_or os j 0 ≡ get_or (path_of e (get_or (keys_of e) i [])) j 0
   pub rest : (j : ℕ) → e.width ≤ j → get_or os j 0 ≡ get_or os₀ j 0
+
+-- member i of an opened encoding, and room for its path
+pub record Climb (l : Bytes) (i : ℕ) (os : List ℕ) : Type 0 where
+  pub valid : Valid (entry_in l)
+  pub few : i < count (entry_in l)
+  pub long : (entry_in l).width ≤ length os
+
+pub climb : {l : Bytes} {e : Encoding} {i : ℕ} {os : List ℕ} → Opens l e → i < e.count → e.width ≤ length os → Climb l i os
+climb {l} {e} o h r = record { valid = opens_valid l e o; few = omega (arith, h, o.count); long = omega (arith, r, o.width) }
 
 module _ (e : Entry) (v : Valid e) (i : ℕ) (lt : i < count e) (os₀ : List ℕ) (long : e.width ≤ length os₀) where
   pub up_start : (m b : ℕ) → m ≡ e.width → b ≡ edge_count e → (b / 2 + i ≤ edge_count e) × UpTo e i m (b / 2 + i) os₀ os₀

@@ -1,14 +1,11 @@
 -- The index fields choose where a search for a set bit starts.
 use mathlib.Core.Path.{◌≡◌, refl, sym, ap, ap₂, ◌∙◌}
 use Prim.Native.Nat.{ℕ, suc, ◌+◌, ◌-◌, ◌*◌, ◌/◌, ◌%◌, ◌≤◌, ◌<◌}
-use mathlib.Core.Bool.{Bool, false, ◌&&◌}
+use mathlib.Core.Bool.{Bool}
 use mathlib.Core.List.{List}
 use native.Mathlib.Omega.{arith}
 use native.Mathlib.Decide.{dec_le}
 use lib.Seq.{take_all, get_or-drop, drop-drop}
-use lib.Dec.{leb, ltb}
-use borrow.Author.Tests.{leb-false}
-use Rattle.loes.proofs.Tests.{lt_yes}
 use lib.ListN.{length, drop, get_or, length-drop}
 use Rattle.loes.specs.Limits.{block_bits, sub_block_bits}
 use Rattle.loes.specs.Bytes.{Bytes, started, number_at, bits_in}
@@ -25,10 +22,6 @@ use Rattle.encoding.proofs.Opened.{opens_room, opens_edges, opens_counted, room_
 use Rattle.encoding.proofs.Index.{sub_block_start}
 use Rattle.query.specs.Select.{numbered, InByte}
 use Rattle.query.proofs.Select.{byte_few, found_byte, ones_mono, select_more}
-
--- not by k, though there: more
-pub more_by : (a b n k : ℕ) → (ltb a b && leb n k) ≡ false → a < b → k < n
-more_by a b n k h g = leb-false n k (rw (lt_yes a b g) at h)
 
 rank_all : (e : List Bool) (n : ℕ) → length e ≤ n → rank e n ≡ ones e
 unfolding rank

@@ -23,6 +23,7 @@ use loes::Refusal;
 
 // ---- The descent
 // A descent on its way: the record of the key's prefix, or the one it would have, and whether that prefix is found.
+// No Option: the descent goes on from the record of a prefix that is not found, too.
 #[derive(Clone, Copy)]
 pub struct Spot {
     pub record: RecordIndex,
@@ -81,6 +82,7 @@ pub fn bad_key(m: usize, key: &[u8]) -> bool
 }
 
 // A key among the members: how many are smaller, and whether it is one.
+// No Option: `lower_bound` asks how many are smaller than a key that is no member, too.
 #[derive(Clone, Copy)]
 pub struct Position {
     pub below: MemberIndex,
@@ -102,22 +104,20 @@ fn locate(o: Opened<'_>, key: &[u8]) -> Result<Position, Refusal>
 }
 
 // ---- Select
-// A set bit: the byte that it is in, and its number among that byte's.
+// A set bit of bytes, by a byte: so many set bits are before it from that byte on.
 #[derive(Clone, Copy)]
-struct BitInByte {
+struct SetBit {
     byte: usize,
     number: usize,
 }
 
-// The set bit that has `left` set bits before it from byte `from` on, byte by byte.
-fn find_in_bytes(edges: &[u8], from: usize, left: usize) -> BitInByte
-    requires { (length edges.now ≤ max_bytes) × (numbered edges.now from left < ones (bits_in edges.now (8 * length edges.now))) }
-    ensures { InByte edges.now (numbered edges.now from left) result.byte result.number }
+// The same bit by the byte that it is in, found byte by byte.
+// No `for`: tried, to the end of the bytes and over eight of them; the tests of its end, which a search that ends by its count does not need, made `key_at` a tenth to a sixth slower.
+fn find_in_bytes(edges: &[u8], from: SetBit) -> SetBit
+    requires { (length edges.now ≤ max_bytes) × (numbered edges.now from.byte from.number < ones (bits_in edges.now (8 * length edges.now))) }
+    ensures { InByte edges.now (numbered edges.now from.byte from.number) result.byte result.number }
 {
-    let mut at = BitInByte {
-        byte: from,
-        number: left,
-    };
+    let mut at = from;
     loop {
         let ones = bits::tally(edges[at.byte]);
         if at.number < ones {
@@ -128,20 +128,20 @@ fn find_in_bytes(edges: &[u8], from: usize, left: usize) -> BitInByte
     }
 }
 
-// The same, eight bytes at a time first: the set bit has eight bytes behind its own.
-fn find_from(edges: &[u8], from: usize, left: usize) -> BitInByte
-    requires { (length edges.now ≤ max_bytes) × (numbered edges.now from left < ones (bits_in edges.now (8 * (length edges.now - 8)))) }
-    ensures { InByte edges.now (numbered edges.now from left) result.byte result.number }
+// The same, eight bytes at a time first, with no `for` either: the set bit has eight bytes behind its own.
+// No one function for both steps: it would take the count as a closure, with a contract of its own, and is no plainer.
+fn find_from(edges: &[u8], from: SetBit) -> SetBit
+    requires { (length edges.now ≤ max_bytes) × (numbered edges.now from.byte from.number < ones (bits_in edges.now (8 * (length edges.now - 8)))) }
+    ensures { InByte edges.now (numbered edges.now from.byte from.number) result.byte result.number }
 {
-    let mut byte = from;
-    let mut number = left;
+    let mut at = from;
     loop {
-        let ones = bits::word_ones(edges, byte);
-        if number < ones {
-            return find_in_bytes(edges, byte, number);
+        let ones = bits::word_ones(edges, at.byte);
+        if at.number < ones {
+            return find_in_bytes(edges, at);
         }
-        number -= ones;
-        byte += 8;
+        at.number -= ones;
+        at.byte += 8;
     }
 }
 
@@ -187,6 +187,7 @@ fn begins_by(o: Opened<'_>, j: usize, k: usize) -> bool
 }
 
 // The last sub-block of a block with at most k set bits of the block before it, by halving.
+// No `binary_search`: the entries are pairs of bytes in the encoding, and no slice of numbers.
 fn sub_block_of(o: Opened<'_>, block: usize, k: usize) -> usize
     requires { block_bits * block < o.encoding.bits }
     ensures { LastBy (edges_of (entry_in o.entry.bytes.now)) o.entry.encoding.bits block k result }
@@ -222,7 +223,7 @@ fn sub_block_near(o: Opened<'_>, block: usize, k: usize, hint: usize) -> usize
 }
 
 // The edge that leads to a record: the set bit of the record's number less 1, by block, sub-block, words and bytes. A hint that is its sub-block, or the one behind that, saves a search.
-fn find_by_index(o: Opened<'_>, r: RecordIndex, hint: usize) -> BitInByte
+fn find_by_index(o: Opened<'_>, r: RecordIndex, hint: usize) -> SetBit
     requires { (0 < r.0) × (r.0 - 1 < ones (edges_of (entry_in o.bytes.now))) }
     ensures { InByte (drop o.entry.encoding.edges o.entry.bytes.now) (r.0 - 1) result.byte result.number }
 {
@@ -230,29 +231,32 @@ fn find_by_index(o: Opened<'_>, r: RecordIndex, hint: usize) -> BitInByte
     let block = block_of(o, k);
     let in_block = k - block_start(o, block);
     let sub = sub_block_near(o, block, in_block, hint);
-    let left = in_block - sub_block_start(o, sub);
-    find_from(
-        &o.bytes[o.encoding.edges..],
-        Encoding::SUB_BLOCK_BYTES * sub,
-        left,
-    )
+    let first = SetBit {
+        byte: Encoding::SUB_BLOCK_BYTES * sub,
+        number: in_block - sub_block_start(o, sub),
+    };
+    find_from(&o.bytes[o.encoding.edges..], first)
 }
 
 // The set bit that has k set bits before it from an offset on.
-fn find_behind(o: Opened<'_>, from: EdgeOffset, k: usize) -> BitInByte
+fn find_behind(o: Opened<'_>, from: EdgeOffset, k: usize) -> SetBit
     requires { (rank (edges_of (entry_in o.bytes.now)) from.0 + k < ones (edges_of (entry_in o.bytes.now))) }
     ensures { InByte (drop o.entry.encoding.edges o.entry.bytes.now) (rank (edges_of (entry_in o.entry.bytes.now)) from.0 + k) result.byte result.number }
 {
-    let at = from.0 / 8;
-    let before = bits::tally_part(o.bytes, o.encoding.edges + at, from.0 % 8);
-    find_from(&o.bytes[o.encoding.edges..], at, before + k)
+    let byte = from.0 / 8;
+    let before = bits::tally_part(o.bytes, o.encoding.edges + byte, from.0 % 8);
+    let first = SetBit {
+        byte,
+        number: before + k,
+    };
+    find_from(&o.bytes[o.encoding.edges..], first)
 }
 
 // So few set bits are counted from the level's start.
 const FEW_RECORDS: usize = 128;
 
 // The edge that leads to a record, which is number k of its level; the edge's level begins at an offset.
-fn find_edge(o: Opened<'_>, r: RecordIndex, from: EdgeOffset, k: usize, hint: usize) -> BitInByte
+fn find_edge(o: Opened<'_>, r: RecordIndex, from: EdgeOffset, k: usize, hint: usize) -> SetBit
     requires { (0 < r.0) × (r.0 - 1 < ones (edges_of (entry_in o.bytes.now))) × (rank (edges_of (entry_in o.bytes.now)) from.0 + k ≡ r.0 - 1) }
     ensures { InByte (drop o.entry.encoding.edges o.entry.bytes.now) (r.0 - 1) result.byte result.number }
 {

@@ -77,13 +77,6 @@ cat_lt {a} {w} j k h l =
 pub run_ok : (h m g n : ℕ) → Short 8 h m → Short 8 g n → (h * 2 ^ n % 2 ^ 64 ≡ h * 2 ^ n) × (h * 2 ^ n + g < 2 ^ (m + n))
 run_ok h m g n a c = (shl_exact m n 64 a.0 (omega (arith, a.1, c.1)), cat_lt m n a.0 c.0)
 
-pub run_sum : (h m g n : ℕ) → Short 8 h m → Short 8 g n → h * 2 ^ n % 2 ^ 64 + g < 2 ^ 64
-run_sum h m g n a c =
-    let k = run_ok h m g n a c in
-    let o : m + n ≤ 32 = omega (arith, a.1, c.1) in
-    let l : 2 ^ (m + n) ≤ 2 ^ 32 = pow_mono {j = 32} o in
-    rw k.0 (omega (arith, k.1))
-
 pub run_cat : (h m g n : ℕ) → Short 8 h m → Short 8 g n → records_of ((m + n) / 2) (h * 2 ^ n + g) ≡ records_of (m / 2) h ++ records_of (n / 2) g
 run_cat h m g n a c =
     let z : (m + n) / 2 ≡ m / 2 + n / 2 = omega (arith, a.2, c.2) in

@@ -114,12 +114,3 @@ Runs t = Ruled run_in (λ (i : ℕ). run_of (map record_of_flag (either_flags (b
 -- the run of those records of a byte that have an edge
 abbrev pub Edged : List ℕ → Type 0
 Edged t = Ruled run_in (λ (i : ℕ). run_of (those has_edge (records_of 4 i))) edged_entries t
-
--- ---- Tables lent
--- if the first has an entry, all three are lent
-abbrev pub TablesLent : Bytes → List ℕ → List ℕ → Type 0
-TablesLent spreads parts runs = 0 < length spreads → Spreads spreads × Parted parts × Runs runs
-
--- if it has an entry, it is lent
-abbrev pub EdgedLent : List ℕ → Type 0
-EdgedLent t = 0 < length t → Edged t

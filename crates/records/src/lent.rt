@@ -1,7 +1,7 @@
 ghost use Rattle.records.specs.Tables.{Spreads, Parted, Runs};
 
-use crate::Run;
 use crate::kinds::Kept;
+use crate::runs::Run;
 
 // The tables that a merge looks records up in: filled once for a call, and lent.
 #[derive(Clone, Copy)]
@@ -27,7 +27,7 @@ impl Tables<'_> {
     ghost use Rattle.std.specs.Prelude.{◌/◌, ◌^◌, ◌<◌, ◌≤◌, ◌≡◌, map};
     ghost use Rattle.loes.specs.Edges.{Record};
     ghost use Rattle.records.specs.Records.{flag_of_record, record_of_flag, first_count, second_count};
-    ghost use Rattle.records.specs.Numbers.{records_of, bits_of, Short};
+    ghost use Rattle.records.specs.Numbers.{records_of, bits_of};
     ghost use Rattle.records.specs.Tables.{spread, kept_by, either_flags};
     ghost use Rattle.records.specs.Kinds.{number_of_kept};
 
@@ -67,7 +67,7 @@ impl Tables<'_> {
     // The flags of four bits of each that are in either.
     pub fn run_at(self, x: usize, y: usize) -> Run
         requires { (x < 16) × (y < 16) }
-        ensures { (records_of (result.bits / 2) result.records ≡ map record_of_flag (either_flags (bits_of 4 x) (bits_of 4 y))) × Short 4 result.records result.bits }
+        ensures { (records_of (result.bits / 2) result.records ≡ map record_of_flag (either_flags (bits_of 4 x) (bits_of 4 y))) × (result.bits ≤ 8) }
     {
         crate::run_of(self.runs[16 * x + y] as usize)
     }

@@ -10,14 +10,17 @@ mod edge_bytes;
 mod edged;
 mod kinds;
 mod lent;
+mod runs;
 
 use bits::RecordIndex;
 pub use edge_bytes::EdgeBytes;
 pub use edged::EdgedTable;
 pub use kinds::Kept;
 pub use lent::{Parts, Tables};
+pub use runs::Run;
 
 // ---- Records in bytes, as numbers 2·on_zero + on_one
+// A record is no struct here: the format lays down its two bits, four records to a byte, and joins shift and mask many at once.
 
 // Record k of a byte.
 pub fn record_in(x: u8, k: usize) -> u8
@@ -54,7 +57,7 @@ pub fn put_record(out: &mut [u8], i: RecordIndex, z: u8)
     out[at] = with_record(old, i.0 % 4, z);
 }
 
-// Record z is put behind the first n, which grow by it if it has an edge.
+// Record z is put behind the first n, which grow by it if it has an edge. The bytes and their end make no struct: in a merge one slice has two ends, of records written and of flags.
 pub fn push(out: &mut [u8], n: RecordIndex, z: u8) -> RecordIndex
     requires { (n.0 < 4 * length out.old) × (z < 4) × (n.0 ≤ 4 * max_edges) }
     ensures { Pushed n.0 z out.old out.new result.0 }
@@ -74,13 +77,6 @@ pub fn seal(out: &mut [u8], k: RecordIndex)
 }
 
 // ---- Several records at a time: in windows of bytes, and in runs
-
-// A byte as a number.
-pub fn wide(x: u8) -> usize
-    ensures { (result ≡ x) × (result < 256) }
-{
-    x as usize
-}
 
 // The sixteen records of the four bytes from byte j on. Just these are read: a wider load would wait for bytes that were written a moment ago.
 pub fn block(l: &[u8], j: usize) -> usize
@@ -106,15 +102,9 @@ pub fn four_in(x: usize, n: usize) -> usize
     (x << (2 * n)) >> 56
 }
 
-// A run of records: so many bits of a number, two to a record.
-#[derive(Clone, Copy)]
-pub struct Run {
-    pub records: usize,
-    pub bits: usize,
-}
-
 // The run in an entry of a table: 256 times its bits, and their number.
 fn run_of(h: usize) -> Run
+    requires { (h % 256 < 2 ^ (h / 256)) × (2 * (h / 256 / 2) ≡ h / 256) }
     ensures { (result.records ≡ h % 256) × (result.bits ≡ h / 256) }
 {
     Run {
@@ -123,22 +113,9 @@ fn run_of(h: usize) -> Run
     }
 }
 
-// A run, and one behind it.
-pub fn run_and(h: Run, g: Run) -> Run
-    requires { Short 8 h.records h.bits × Short 8 g.records g.bits }
-    ensures { (records_of (result.bits / 2) result.records ≡ records_of (h.bits / 2) h.records ++ records_of (g.bits / 2) g.records) × (result.records < 2 ^ result.bits) × (result.bits ≡ h.bits + g.bits) }
-{
-    let n = g.bits;
-    let x = (h.records << n) + g.records;
-    Run {
-        records: x,
-        bits: h.bits + n,
-    }
-}
-
 // A run put behind the first k records. Eight bytes are written, which is one store: what is behind the run is cleared.
 pub fn append(out: &mut [u8], k: RecordIndex, r: Run)
-    requires { (k.0 / 4 + 7 < length out.old) × Short 16 r.records r.bits }
+    requires { (k.0 / 4 + 7 < length out.old) × (r.bits ≤ 32) }
     ensures { Appended k.0 (r.bits / 2) r.records out.old out.new }
 {
     let at = k.0 / 4;

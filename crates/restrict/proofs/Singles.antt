@@ -4,9 +4,6 @@ use Prim.Native.Nat.{ℕ, zero, suc, ◌+◌, ◌-◌, ◌*◌, ◌/◌, ◌%◌
 use mathlib.Core.Bool.{Bool, true, false, ◌&&◌, cond}
 use mathlib.Core.List.{List, [], ◌∷◌, ◌++◌}
 use native.Mathlib.Omega.{arith}
-use borrow.Author.Rules.{rules}
-use borrow.Rule.Slice.PartMut.{put_mid}
-use Rattle.std.proofs.lemmas.List.{places}
 use native.Mathlib.Decide.{ℕ_discrete, dec_le}
 use lib.ListN.{length, get_or, set, length-set, get_or-append}
 use lib.Seq.{get_or-append_seam, get_or-set_same, get_or-set_other}
@@ -209,24 +206,20 @@ module _ (q : Bytes) (j a b c d : ℕ) (room : j + 3 < length q) where
   pub four_3 : get_or four_set (j + 3) 0 ≡ d
   four_3 = get_or-set_same (set (set (set q j a) (j + 1) b) (j + 2) c) (j + 3) d 0 (simp length-set (omega arith))
 
--- sixteen records in a number, in four bytes
-pub four_marked : (q : Bytes) (j k z : ℕ) (l : List Record) (i e : ℕ) → j + 3 < length q → k ≡ 4 → i ≡ 4 * j → z < 2 ^ 32 → records_of 16 z ≡ kept_singles l (records_at q e 16)
-    → SinglesMarked l q i e (put_mid j k q (z / 16777216 % 256 ∷ z / 65536 % 256 ∷ z / 256 % 256 ∷ z % 256 ∷ []))
-four_marked q j k z l i e room ek ei h g =
-    let bytes : List ℕ = z / 16777216 % 256 ∷ z / 65536 % 256 ∷ z / 256 % 256 ∷ z % 256 ∷ [] in
-    let u : Bytes = put_mid j k q bytes in
-    let b : (t : ℕ) → t < 4 → get_or u (j + t) 0 ≡ get_or bytes t 0 = λ t f. search (rules, places) in
-    let z0 : j + 0 ≡ j = omega arith in
-    let sum : z / 16777216 % 256 * 16777216 + z / 65536 % 256 * 65536 + z / 256 % 256 * 256 + z % 256 ≡ z = omega arith in
-    record {
-      here =
-          ap (λ t. records_at u t 16) ei ∙ sym (sixteen u j (z / 16777216 % 256) (z / 65536 % 256) (z / 256 % 256) (z % 256) (sym (rw z0 at (b 0 (omega arith)))) (sym (b 1 (omega arith))) (sym (b 2 (omega arith))) (sym (b 3 (omega arith))) (omega arith) (omega arith) (omega arith))
-          ∙ ap (records_of 16) sum ∙ g;
-      other = λ m f.
-          let g : get_or u (m / 4) 0 ≡ get_or q (m / 4) 0 = search (rules, places) in
-          code_at u m ∙ rw g (sym (code_at q m));
-      size = search (rules, places);
-    }
+  -- sixteen records in a number put into them
+  pub four_marked : (l : List Record) (i e z : ℕ) → i ≡ 4 * j → z < 2 ^ 32 → a ≡ z / 2 ^ 24 → b ≡ z / 2 ^ 16 % 256 → c ≡ z / 2 ^ 8 % 256 → d ≡ z % 256
+      → records_of 16 z ≡ kept_singles l (records_at q e 16) → SinglesMarked l q i e four_set
+  four_marked l i e z ei h ea eb ec ed k =
+      let sum : a * 16777216 + b * 65536 + c * 256 + d ≡ z = omega arith in
+      record {
+        here =
+            ap (λ t. records_at four_set t 16) ei ∙ sym (sixteen four_set j a b c d (sym four_0) (sym four_1) (sym four_2) (sym four_3) (omega arith) (omega arith) (omega arith))
+            ∙ ap (records_of 16) sum ∙ k;
+        other = λ m f.
+            let g : get_or four_set (m / 4) 0 ≡ get_or q (m / 4) 0 = four_other (m / 4) (λ x y. f (omega arith) (omega arith)) in
+            code_at four_set m ∙ rw g (sym (code_at q m));
+        size = four_size;
+      }
 
 -- ---- Sixteen records marked are one by one marked, from the last to the first
 mask_single : (f : ℕ → Bool) (d : ℕ) (s : Record) → children s ≡ 1 → mask_at f d s ≡ cond (f d) s empty_record

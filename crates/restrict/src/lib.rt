@@ -7,7 +7,7 @@ ghost use Rattle.loes.specs.Keys.{those};
 ghost use Rattle.loes.specs.Edges.{record_bits};
 ghost use Rattle.loes.specs.Held.{entry_held};
 ghost use Rattle.records.specs.Records.{empty_record, record_of_code, record_at, records_at, records_to, has_edge, children, Packed};
-ghost use Rattle.records.specs.Numbers.{records_of, bits_of, Short};
+ghost use Rattle.records.specs.Numbers.{records_of, bits_of};
 ghost use Rattle.records.specs.Tables.{spread, by_edge, kept_by};
 ghost use Rattle.records.specs.Kinds.{number_of_kept};
 ghost use Rattle.merge.specs.Union.{QueueRoom};
@@ -47,8 +47,8 @@ pub fn mark_byte(q: &[u8], tables: Tables<'_>, kept: Kept, x: u8, d: RecordIndex
 {
     let v = records::window(q, d);
     let n = count_edges(tables, x / 16);
-    let a = mark_half(tables, kept, records::wide(x / 16), records::four_in(v, 0));
-    let b = mark_half(tables, kept, records::wide(x % 16), records::four_in(v, n));
+    let a = mark_half(tables, kept, (x / 16) as usize, records::four_in(v, 0));
+    let b = mark_half(tables, kept, (x % 16) as usize, records::four_in(v, n));
     (a * 16 + b) as u8
 }
 
@@ -59,7 +59,7 @@ fn test_at(d: RecordIndex, r: RecordIndex, members: Members) -> Kept
     if d.0 < r.0 {
         Kept::Edged
     } else {
-        members.kept()
+        Kept::from(members)
     }
 }
 
@@ -67,22 +67,11 @@ fn test_at(d: RecordIndex, r: RecordIndex, members: Members) -> Kept
 fn has_mark(r: RecordIndex, i: RecordIndex, k: usize, c: RecordIndex, l: usize) -> bool
     ensures { result ≡ true → MarkRoom r.0 i.0 k c.0 l }
 {
-    if i.0 % 4 > 0 {
-        return false;
-    }
-    if c.0 < k {
-        return false;
-    }
-    let d = c.0 - k;
-    if d < i.0 {
-        return false;
-    }
-    if d < r.0 {
-        if r.0 < c.0 {
-            return false;
-        }
-    }
-    d / 4 + 3 < l
+    i.0 % 4 == 0
+        && k <= c.0
+        && i.0 <= c.0 - k
+        && (r.0 <= c.0 - k || c.0 <= r.0)
+        && (c.0 - k) / 4 + 3 < l
 }
 
 // How many edges the byte of record i - 1 has, if it can be marked whole.
@@ -112,7 +101,7 @@ fn sixteen(l: &[u8], i: RecordIndex) -> usize
     ensures { (records_of 16 result ≡ records_at l.now i.0 16) × (result < 2 ^ 32) }
 {
     let at = i.0 / 4;
-    let x = records::block(l, at) * bits::BYTE + records::wide(l[at + 4]);
+    let x = records::block(l, at) * bits::BYTE + l[at + 4] as usize;
     (x << (24 + 2 * (i.0 % 4))) >> 32
 }
 
@@ -134,23 +123,12 @@ pub fn has_singles(q: &[u8], r: RecordIndex, i: RecordIndex, c: RecordIndex) -> 
     requires { (i.0 ≤ r.0) × (r.0 ≤ 4 * length q.now) × (length q.now ≤ max_edges) }
     ensures { result ≡ true → SingleRoom q.now r.0 i.0 c.0 }
 {
-    if i.0 % SINGLES > 0 {
-        return false;
-    }
-    if i.0 < SINGLES {
-        return false;
-    }
-    if r.0 < c.0 {
-        return false;
-    }
-    if c.0 < i.0 + SINGLES {
-        return false;
-    }
-    if c.0 / 4 < q.len() {
-        no_double(records::block(q, (i.0 - SINGLES) / 4))
-    } else {
-        false
-    }
+    i.0 % SINGLES == 0
+        && SINGLES <= i.0
+        && c.0 <= r.0
+        && i.0 + SINGLES <= c.0
+        && c.0 / 4 < q.len()
+        && no_double(records::block(q, (i.0 - SINGLES) / 4))
 }
 
 // Records of one edge in y, less those whose entry in e has none.
@@ -170,10 +148,15 @@ pub fn mark_singles(y: usize, z: &mut [u8], i: RecordIndex, d: RecordIndex)
     let at = i.0 / 4;
     let e = sixteen(z, d);
     let k = keep_singles(y, e);
-    z[at..at + 4].copy_from_slice(&(k as u32).to_be_bytes());
+    // written one by one: `copy_from_slice` compiles to a test whether the two overlap, and marking takes a sixth longer
+    let [first, second, third, fourth] = (k as u32).to_be_bytes();
+    z[at] = first;
+    z[at + 1] = second;
+    z[at + 2] = third;
+    z[at + 3] = fourth;
 }
 
-// ---- All records of a union
+// ---- All records of a union. What is asked of q, r and n stands in no struct: q is written in place, and is no union from the first mark on.
 
 // Record i, which is x, less the edges whose entries, from d on, are not kept.
 fn mark_record(
@@ -191,7 +174,7 @@ fn mark_record(
         marks: q,
         queue: q,
         records: r,
-        members,
+        flag: members.flag(),
     };
     let z = entries.kept_record(x, d);
     records::put_record(q, i, z);
@@ -204,7 +187,7 @@ fn mark_bytes(tables: Tables<'_>, q: &mut [u8], r: RecordIndex, n: usize, member
 {
     let mut i = r.0;
     let mut c = r.0 + n;
-    // no `for`: a step is of sixteen records, four or one, by what is found
+    // no `for`: a step is of sixteen records, four or one, by what is found; no struct of i and c: they fall by unlike steps
     while i > 0 {
         if has_singles(q, r, RecordIndex(i), RecordIndex(c)) {
             i -= SINGLES;
@@ -226,7 +209,7 @@ fn mark_bytes(tables: Tables<'_>, q: &mut [u8], r: RecordIndex, n: usize, member
     }
 }
 
-// The byte of record i - 1, if there is one.
+// The byte of record i - 1. Where there is none it is never read, so that an Option would only be asked at each record.
 fn byte_before(q: &[u8], i: RecordIndex) -> u8
     requires { 0 < i.0 → (i.0 - 1) / 4 < length q.now }
     ensures { 0 < i.0 → result ≡ get_or q.now ((i.0 - 1) / 4) 0 }
@@ -266,9 +249,9 @@ fn mark(tables: Option<Tables<'_>>, q: &mut [u8], r: RecordIndex, n: usize, memb
 
 // The records of two bytes that have an edge.
 fn bytes_run(edged: EdgedTable<'_>, x: u8, y: u8) -> Run
-    ensures { (records_of (result.bits / 2) result.records ≡ those has_edge (records_of 4 x ++ records_of 4 y)) × Short 8 result.records result.bits }
+    ensures { (records_of (result.bits / 2) result.records ≡ those has_edge (records_of 4 x ++ records_of 4 y)) × (result.bits ≤ 16) }
 {
-    records::run_and(edged.edged_at(x), edged.edged_at(y))
+    edged.edged_at(x).followed_by(edged.edged_at(y))
 }
 
 // The records of the four bytes from byte j of q on that have an edge, put behind the first k.
@@ -284,10 +267,9 @@ fn compact_block(
 {
     let h = bytes_run(edged, q[j], q[j + 1]);
     let g = bytes_run(edged, q[j + 2], q[j + 3]);
-    let c = records::run_and(h, g);
-    let n = c.bits / 2;
-    records::append(out, k, c);
-    RecordIndex(k.0 + n)
+    let run = h.followed_by(g);
+    records::append(out, k, run);
+    RecordIndex(k.0 + run.count())
 }
 
 // How many records were looked at, and how many of them have an edge.

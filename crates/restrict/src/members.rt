@@ -19,12 +19,14 @@ impl Members {
     {
         self as u8
     }
+}
 
-    // The test of a table that keeps them.
-    pub fn kept(self) -> Kept
-        ensures { number_of_kept result ≡ member_flag self }
-    {
-        match self {
+// The test of a table that keeps them.
+impl From<Members> for Kept {
+    ghost from_gives = { λ m k. number_of_kept k ≡ member_flag m };
+
+    fn from(members: Members) -> Kept {
+        match members {
             Members::FirstOnly => Kept::FirstOnly,
             Members::SecondOnly => Kept::SecondOnly,
             Members::Both => Kept::Both,

@@ -1,18 +1,18 @@
 -- From the edges of three parts to the call, and the rooms.
-use mathlib.Core.Path.{◌≡◌, sym, ap, ap₂, ◌∙◌}
-use Prim.Native.Nat.{ℕ, ◌+◌, ◌*◌, ◌/◌, ◌≤◌}
+use mathlib.Core.Path.{◌≡◌, refl, sym, ap, ap₂, ◌∙◌}
+use Prim.Native.Nat.{ℕ, ◌+◌, ◌/◌, ◌≤◌}
 use mathlib.Core.Bool.{Bool, true, false, ◌||◌, or-false}
 use mathlib.Core.List.{List, [], ◌∷◌, map}
 use mathlib.Core.Option.{some}
 use native.Mathlib.Omega.{arith}
-use lib.ListN.{length}
+use lib.ListN.{length, replicate, length-replicate}
 use lib.Dec.{ltb}
 use Rattle.loes.specs.Limits.{max_edges}
 use Rattle.loes.specs.Bytes.{Bytes, front}
 use Rattle.loes.specs.Keys.{any_of}
 use Rattle.loes.specs.Entry.{Entry, edges_of, edge_count, with_set, too_many_edges, Valid}
 use Rattle.loes.specs.Encode.{encode}
-use Rattle.loes.specs.Read.{opened, read, entry_in, end_of}
+use Rattle.loes.specs.Read.{opened, read, entry_in, entry_along, end_of}
 use Rattle.loes.specs.Calls.{after_reading, reading, split_call}
 use Rattle.loes.specs.Held.{entry_held}
 use Rattle.loes.specs.Refusals.{short_buffer}
@@ -21,53 +21,55 @@ use Rattle.loes.proofs.Tests.{lt_no}
 use Rattle.loes.proofs.Writes.{writes_refused, writes_on, all_short, all_fit}
 use Rattle.loes.proofs.Histories.{difference_valid, both_valid}
 use Rattle.loes.proofs.Splits.{both_fewer, difference_fewer}
-use Rattle.encoding.specs.Opened.{Opens}
-use Rattle.encoding.specs.declared.Encoding.{Encoding}
-use Rattle.encoding.proofs.Opened.{opens_valid}
 use Rattle.build.proofs.Fields.{held_length}
 use Rattle.records.specs.Records.{Packed}
-use Rattle.join.specs.Joining.{pair_refusal, Joined, queue_for, large}
-use Rattle.join.specs.declared.Join.TheVariants as join
-use Rattle.join.proofs.Joins.{widths_same, pair_refused, join_held, join_joined, joined_bits, first, second, first_held, second_held}
+use Rattle.join.specs.Joining.{pair_refusal, Joined}
+use Rattle.join.specs.declared.pair.Pair.{Pair}
+use Rattle.join.specs.declared.joined.JoinedEdges.{JoinedEdges}
+use Rattle.records.specs.declared.edge_bytes.EdgeBytes.{EdgeBytes}
+use Rattle.join.proofs.Joins.{opened_within, widths_same, pair_alike, pair_refused, held_valid, join_held, join_joined, joined_bits}
 use Rattle.divide.specs.declared.Three.{Three}
-use Rattle.divide.specs.Division.{MarksFit, Divided}
-use Rattle.split.specs.Splitting.{marks_for, SplitRooms}
+use Rattle.divide.specs.Division.{MarksFit, Divided, DivideRoom}
+use Rattle.split.specs.Splitting.{SplitRoom}
 
 -- ---- Three entries whose edges are not too many
-module _ (m i j h : ℕ) (x y z : Bytes) (p : Joined m i x) (q : Joined m j y) (r : Joined m h z) (fi : i ≤ max_edges) (fj : j ≤ max_edges) (fh : h ≤ max_edges) (xs ys zs : Bytes) where
+module _ (u v w : JoinedEdges) (fu : u.bits ≤ max_edges) (fv : v.bits ≤ max_edges) (fw : w.bits ≤ max_edges) (xs ys zs : Bytes) where
+  abbrev held : JoinedEdges → Entry
+  held o = entry_held o.width o.bits o.bytes.now
+
   abbrev es : List Entry
-  es = entry_held m i x ∷ entry_held m j y ∷ entry_held m h z ∷ []
+  es = held u ∷ held v ∷ held w ∷ []
 
   abbrev bufs : List Bytes
   bufs = xs ∷ ys ∷ zs ∷ []
 
   abbrev short : Bool
-  short = ltb (length xs) (end_of m i) || (ltb (length ys) (end_of m j) || ltb (length zs) (end_of m h))
+  short = ltb (length xs) (end_of u.width u.bits) || (ltb (length ys) (end_of v.width v.bits) || ltb (length zs) (end_of w.width w.bits))
 
-  few : (b : ℕ) (l : Bytes) → Joined m b l → b ≤ max_edges → too_many_edges (edge_count (entry_held m b l)) ≡ false
+  few : (o : JoinedEdges) → o.bits ≤ max_edges → too_many_edges (edge_count (held o)) ≡ false
   unfolding too_many_edges
-  few b l o f = lt_no max_edges (edge_count (entry_held m b l)) (omega (arith, joined_bits m b l o))
+  few o f = lt_no max_edges (edge_count (held o)) (omega (arith, joined_bits o.width o.bits o.bytes.now o.joined, f))
 
   all_few : any_of (λ (e : Entry). too_many_edges (edge_count e)) es ≡ false
   unfolding any_of
-  all_few = rw (few i x p fi, few j y q fj, few h z r fh)
+  all_few = rw (few u fu, few v fv, few w fw)
 
-  long : (b : ℕ) (l : Bytes) → Joined m b l → length (encode (entry_held m b l)) ≡ end_of m b
-  long b l o = held_length m b l (joined_bits m b l o)
+  long : (o : JoinedEdges) → length (encode (held o)) ≡ end_of o.width o.bits
+  long o = held_length o.width o.bits o.bytes.now (joined_bits o.width o.bits o.bytes.now o.joined)
 
   short_is : any_short (map encode es) bufs ≡ short
   unfolding any_short
-  short_is = rw (long i x p, long j y q, long h z r, or-false)
+  short_is = rw (long u, long v, long w, or-false)
 
   pub three_refused : short ≡ true → writes [] es bufs ≡ refusal short_buffer bufs
   three_refused g = all_short es bufs all_few (short_is ∙ g)
 
   pub three_written : short ≡ false
-      → (writes [] es bufs).outcome ≡ writing_all (wrote (end_of m i ∷ end_of m j ∷ end_of m h ∷ [])) (front (encode (entry_held m i x)) xs ∷ front (encode (entry_held m j y)) ys ∷ front (encode (entry_held m h z)) zs ∷ [])
+      → (writes [] es bufs).outcome ≡ writing_all (wrote (end_of u.width u.bits ∷ end_of v.width v.bits ∷ end_of w.width w.bits ∷ [])) (front (encode (held u)) xs ∷ front (encode (held v)) ys ∷ front (encode (held w)) zs ∷ [])
   unfolding fronts
   three_written g =
       all_fit es bufs all_few (short_is ∙ g)
-      ∙ ap (λ l. writing_all (wrote l) (fronts (map encode es) bufs)) (ap₂ ◌∷◌ (long i x p) (ap₂ ◌∷◌ (long j y q) (ap (λ n. n ∷ []) (long h z r))))
+      ∙ ap (λ l. writing_all (wrote l) (fronts (map encode es) bufs)) (ap₂ ◌∷◌ (long u) (ap₂ ◌∷◌ (long v) (ap (λ n. n ∷ []) (long w))))
 
 -- ---- Two encodings of one width
 -- k edge bits hold a set whose edges are not too many
@@ -82,44 +84,32 @@ part {x} {o} {l} {k} v w r =
     rw (← w)
     record { joined = join_joined x v.positive v.sized o l k r v.narrow; few = omega (arith, r.count, v.few); held = join_held x v.positive v.sized o l k r }
 
-module _ (a b : Bytes) (e f : Encoding) (o : Opens a e) (q : Opens b f) (w : e.width ≡ f.width) where
+module _ (a b : EdgeBytes) (w : a.width ≡ b.width) where
   abbrev d : Entry
-  d = entry_in a
+  d = entry_held a.width a.bits a.bytes.now
 
   abbrev g : Entry
-  g = entry_in b
+  g = entry_held b.width b.bits b.bytes.now
 
   both_fine : Valid (both_entry d g)
-  both_fine = let v = opens_valid a e o in both_valid d g v (omega (arith, both_fewer d g, v.few))
+  both_fine = let v = held_valid a.holds in both_valid d g v (omega (arith, both_fewer d g, v.few))
 
   first_fine : Valid (difference_entry d g)
-  first_fine = let v = opens_valid a e o in difference_valid d g v (omega (arith, difference_fewer d g, v.few))
+  first_fine = let v = held_valid a.holds in difference_valid d g v (omega (arith, difference_fewer d g, v.few))
 
   second_fine : Valid (difference_entry g d)
-  second_fine = let v = opens_valid b f q in difference_valid g d v (omega (arith, difference_fewer g d, v.few))
+  second_fine = let v = held_valid b.holds in difference_valid g d v (omega (arith, difference_fewer g d, v.few))
 
   -- the edges of all three
-  module _ {l h c l' h' c' : Bytes} {k : Three} (r : Divided (entry_held e.width e.bits (first join.Difference a b e f o q w)) (entry_held e.width f.bits (second join.Difference a b e f o q w)) l h c l' h' c' k) where
-    parts : Divided d g l h c l' h' c' k
-    parts = rw (first_held join.Difference a b e f o q w, second_held join.Difference a b e f o q w) at r
+  module _ {l h c l' h' c' : Bytes} {k : Three} (r : Divided d g l h c l' h' c' k) where
+    pub both_part : Part a.width (both_entry d g) l' k.both
+    both_part = part both_fine (unfold with_set entry_held entry_along in refl) r.both
 
-    pub both_part : Part e.width (both_entry d g) l' k.both
-    unfolding with_set
-    both_part = part both_fine (sym o.width) parts.both
+    pub first_part : Part a.width (difference_entry d g) h' k.only_first
+    first_part = part first_fine (unfold with_set entry_held entry_along in refl) r.only_first
 
-    pub first_part : Part e.width (difference_entry d g) h' k.only_first
-    unfolding with_set
-    first_part = part first_fine (sym o.width) parts.only_first
-
-    pub second_part : Part e.width (difference_entry g d) c' k.only_second
-    unfolding with_set
-    second_part = part second_fine (sym q.width ∙ sym w) parts.only_second
-
-    pub three_split : (x y z : Bytes) → (writes [] (entry_held e.width k.both l' ∷ entry_held e.width k.only_first h' ∷ entry_held e.width k.only_second c' ∷ []) (x ∷ y ∷ z ∷ [])).outcome ≡ (split d g x y z).outcome
-    unfolding split
-    three_split x y z =
-        ap (λ l. (writes [] l (x ∷ y ∷ z ∷ [])).outcome) (ap₂ ◌∷◌ both_part.held (ap₂ ◌∷◌ first_part.held (ap (λ x. x ∷ []) second_part.held)))
-        ∙ ap (λ s. s.outcome) (sym (writes_on (join_tests d g) _ (x ∷ y ∷ z ∷ []) (widths_same d g (sym o.width ∙ w ∙ q.width))))
+    pub second_part : Part a.width (difference_entry g d) c' k.only_second
+    second_part = part second_fine (unfold with_set entry_held entry_along in sym w) r.only_second
 
 -- ---- The call on bytes
 pub split_refused : (a b x y z : Bytes) (k : ℕ) → pair_refusal (read a) (read b) ≡ some k → split_call a b x y z ≡ writing_all (refused k) (x ∷ y ∷ z ∷ [])
@@ -127,15 +117,23 @@ unfolding split_call split refusal
 split_refused a b x y z k h =
     pair_refused a b k (x ∷ y ∷ z ∷ []) _ h (λ e f g. ap (λ s. s.outcome) (writes_refused (join_tests e f) _ (x ∷ y ∷ z ∷ []) k g))
 
-pub split_opens : (a b x y z : Bytes) → read a ≡ opened (entry_in a) → read b ≡ opened (entry_in b) → split_call a b x y z ≡ (split (entry_in a) (entry_in b) x y z).outcome
-unfolding split_call reading after_reading
-split_opens a b x y z h g = rw (h, g)
+pub split_parts : (p : Pair) (a b x y z : Bytes) (d e s t u : Entry) → p.first.bytes.now ≡ a → p.second.bytes.now ≡ b → d ≡ entry_in p.first.bytes.now → e ≡ entry_in p.second.bytes.now
+    → s ≡ both_entry d e → t ≡ difference_entry d e → u ≡ difference_entry e d → (writes [] (s ∷ t ∷ u ∷ []) (x ∷ y ∷ z ∷ [])).outcome ≡ split_call a b x y z
+unfolding split_call split reading after_reading
+split_parts p a b x y z d e s t u ha hb hd he hs ht hu =
+    let w : d.width ≡ e.width = rw (hd, he) (pair_alike p) in
+    let ra : read a ≡ opened d = rw (← ha, hd) p.first.opens.reads in
+    let rb : read b ≡ opened e = rw (← hb, he) p.second.opens.reads in
+    ap (λ l. (writes [] l (x ∷ y ∷ z ∷ [])).outcome) (ap₂ ◌∷◌ hs (ap₂ ◌∷◌ ht (ap (λ x. x ∷ []) hu)))
+    ∙ ap (λ o. o.outcome) (sym (writes_on (join_tests d e) _ (x ∷ y ∷ z ∷ []) (widths_same d e w)))
+    ∙ sym (rw (ra, rb))
 
--- ---- The rooms of n bytes
-pub rooms_for : (n a b : ℕ) (q x y z : Bytes) → n ≤ large → ((k : ℕ) → k ≤ 8 * a → k ≤ max_edges → k ≤ 8 * n) → ((k : ℕ) → k ≤ 8 * b → k ≤ max_edges → k ≤ 8 * n)
-    → length q ≡ queue_for n → length x ≡ marks_for n → length y ≡ marks_for n → length z ≡ marks_for n → SplitRooms a b q x y z
-rooms_for n a b q x y z k f g s t u w ba bb i j p r =
-    let ha = f ba i j in
-    let hb = g bb p r in
-    let fits : (l : Bytes) → length l ≡ marks_for n → MarksFit ((ba + bb) / 2) l = λ l e. record { room = omega arith; small = omega arith } in
-    record { queue = record { queue = omega arith; small = omega arith }; both = fits x t; only_first = fits y u; only_second = fits z w }
+-- ---- The rooms, cleared, serve what two encodings of these lengths have
+pub rooms_serve : (queue marks : ℕ) (p : Pair) (a b : Bytes) (x y : ℕ) → p.first.bytes.now ≡ a → p.second.bytes.now ≡ b → x ≡ p.first.encoding.bits → y ≡ p.second.encoding.bits
+    → SplitRoom (length a) (length b) queue marks → DivideRoom x y (replicate queue 0) (replicate marks 0) (replicate marks 0) (replicate marks 0)
+rooms_serve queue marks p a b x y ha hb hx hy r =
+    let i = opened_within p.first a x ha hx in
+    let j = opened_within p.second b y hb hy in
+    let long : (n : ℕ) → length {A = ℕ} (replicate n 0) ≡ n = λ n. length-replicate n 0 in
+    let fits : MarksFit ((x + y) / 2) (replicate marks 0) = record { room = omega (arith, i, j, long marks, r.records); small = omega (arith, long marks, r.few_marks) } in
+    record { queue = record { queue = omega (arith, i, j, long queue, r.flags); small = omega (arith, long queue, r.few_flags) }; both = fits; only_first = fits; only_second = fits }

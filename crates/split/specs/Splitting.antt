@@ -1,22 +1,25 @@
 -- Two sets split in three: the rooms, and what is answered.
-use Rattle.std.specs.Prelude.{ℕ, ◌+◌, ◌*◌, ◌≤◌, [], ◌∷◌}
-use Rattle.loes.specs.Limits.{max_edges}
+use Rattle.std.specs.Prelude.{ℕ, ◌+◌, ◌*◌, ◌/◌, ◌≤◌, [], ◌∷◌, Result, Ok, Err}
 use Rattle.loes.specs.Bytes.{Bytes}
+use Rattle.loes.specs.Numbers.{number_of}
+use Rattle.loes.specs.declared.refusal.Refusal.{Refusal}
+use Rattle.divide.specs.declared.Three.{Three}
 use Rattle.loes.specs.Model.{Outcome, refused, wrote, writing_all}
-use Rattle.join.specs.Joining.{spare}
-use Rattle.divide.specs.Division.{DivideRoom}
-use Rattle.split.specs.declared.AllWritten.{AllWritten}
-use Rattle.split.specs.declared.AllWritten.TheVariants as all_written
+use Rattle.records.specs.Numbers.{overread, overwrite}
+use Rattle.join.specs.Joining.{spare, edges_within, queue_for, large}
 
 -- the bytes of a union's marks, for encodings of at most n bytes each
 abbrev pub marks_for : ℕ → ℕ
 marks_for n = 2 * n + spare
 
--- room for whatever two encodings of these lengths have
-abbrev pub SplitRooms : ℕ → ℕ → Bytes → Bytes → Bytes → Bytes → Type 0
-SplitRooms a b q x y z = (ba bb : ℕ) → ba ≤ 8 * a → ba ≤ max_edges → bb ≤ 8 * b → bb ≤ max_edges → DivideRoom ba bb q x y z
+-- a queue and room for the marks of three parts, of so many bytes each, for whatever two encodings of x and y bytes have
+pub record SplitRoom (x y queue marks : ℕ) : Type 0 where
+  pub flags : edges_within x + edges_within y + 1 + overwrite ≤ 4 * queue
+  pub records : (edges_within x + edges_within y) / 2 + overread ≤ 4 * marks
+  pub few_flags : queue ≤ queue_for large
+  pub few_marks : marks ≤ marks_for large
 
 -- what the answer says, with the three buffers at exit
-unfoldable pub split_outcome : AllWritten → Bytes → Bytes → Bytes → Outcome
-split_outcome (all_written.Refused k) both only_first only_second = writing_all (refused k) (both ∷ only_first ∷ only_second ∷ [])
-split_outcome (all_written.Lengths n) both only_first only_second = writing_all (wrote (n.both ∷ n.only_first ∷ n.only_second ∷ [])) (both ∷ only_first ∷ only_second ∷ [])
+unfoldable pub split_outcome : Result Three Refusal → Bytes → Bytes → Bytes → Outcome
+split_outcome (Err k) both only_first only_second = writing_all (refused (number_of k)) (both ∷ only_first ∷ only_second ∷ [])
+split_outcome (Ok n) both only_first only_second = writing_all (wrote (n.both ∷ n.only_first ∷ n.only_second ∷ [])) (both ∷ only_first ∷ only_second ∷ [])

@@ -8,7 +8,7 @@ use mathlib.Core.Option.{none}
 use lib.IntN.{ℤ}
 use lib.Signed.{lt_z, ◌≤ℤ◌, lt_z_yes, lt_z_no, clash_ℤ}
 use lib.Dec.{T, ltb}
-use lib.ListN.{length, set}
+use lib.ListN.{length}
 use Rattle.loes.specs.Limits.{max_edges}
 use Rattle.loes.specs.Bytes.{Bytes}
 use Rattle.loes.specs.Keys.{Key}

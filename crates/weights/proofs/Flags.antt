@@ -1,15 +1,17 @@
 -- Lists read in step with flags: what was taken before a member, what is taken at it, and what was written so far.
 use mathlib.Core.Path.{◌≡◌, refl, sym, ap, ap₂, ◌∙◌}
 use Prim.Native.Nat.{ℕ, zero, suc, ◌+◌, ◌/◌, ◌%◌, ◌≤◌, ◌<◌}
-use mathlib.Core.Bool.{Bool, true, false, ◌&&◌, ◌||◌, cond, or-false}
+use mathlib.Core.Bool.{Bool, true, false, ◌&&◌, ◌||◌, cond, or-false, false≢true}
 use mathlib.Core.List.{List, [], ◌∷◌, ◌++◌, append-nil}
 use native.Mathlib.Omega.{arith}
 use native.Mathlib.Decide.{le_ind, dec_le}
 use native.Mathlib.Numerals.{add-one}
-use lib.IntN.{ℤ, ◌+ℤ◌}
+use lib.IntN.{ℤ, ◌+ℤ◌, +ℤ_idl, +ℤ_idr}
+use mir.Syntax.{w32}
 use lib.ListN.{length, get_or, set, take, length-append}
 use lib.Seq.{take-set-le, take-suc-set}
 use lib.Dec.{eqb}
+use mir.Val.{bool_byte, SFits}
 use Rattle.loes.specs.Bytes.{Bytes, bit, odd, tabulate}
 use Rattle.loes.specs.Keys.{any_of}
 use Rattle.loes.proofs.Bytes.{length_tabulate}
@@ -23,6 +25,7 @@ use Rattle.records.proofs.Lookups.{first_le, second_le}
 use Rattle.merge.proofs.Single.{flag_odd}
 use Rattle.merge.proofs.Merging.{first_append, second_append}
 use Rattle.weights.specs.Weights.{Weights, no_weight, outside}
+use Rattle.weights.proofs.Ranges.{fits_inside}
 use Rattle.weights.specs.Lists.{taken, first_at, second_at, sum_at, over_at, any_below, kept_to, FlagRead}
 
 -- ---- How many were taken
@@ -61,6 +64,13 @@ module _ (q : Bytes) (r : ℕ) where
     kept_most : (i n : ℕ) → i ≤ n → length (kept_to q r wa i) ≤ length (kept_to q r wa n)
     kept_most i n h = le_ind {n = i} (λ (j : ℕ). length (kept_to q r wa i) ≤ length (kept_to q r wa j)) (omega arith) (λ j k ih. omega (arith, ih, kept_one j)) n h
 
+-- one of two that are not both taken is nothing
+single : (a b : Bool) (wa wb : Weights) (i j : ℕ) (x y : ℤ) → x ≡ taken a wa i → y ≡ taken b wb j → SFits w32 x → SFits w32 y → (a && b) ≡ false → outside (x +ℤ y) ≡ false
+unfolding taken
+single true true wa wb i j x y p q f g h = absurd (false≢true (sym h))
+single true false wa wb i j x y p q f g h = ap (λ z. outside (x +ℤ z)) q ∙ ap outside (+ℤ_idr x) ∙ fits_inside x f
+single false b wa wb i j x y p q f g h = ap (λ z. outside (z +ℤ y)) p ∙ ap outside (+ℤ_idl y) ∙ fits_inside y g
+
 -- ---- Member i, whose flag was read as f
 module _ {q : Bytes} {r i f : ℕ} (e : FlagRead q r i f) where
   pub first_next : first_count (flags_from q r i) + f % 2 ≡ first_count (flags_from q r (suc i))
@@ -73,20 +83,26 @@ module _ {q : Bytes} {r i f : ℕ} (e : FlagRead q r i f) where
   kept_next wa = ap (λ b. length (kept_to q r wa i) + bit b) (sym (flag_code f 1 q (r + i) e.low e.code)) ∙ sym (kept_one q r wa i)
 
   module _ (wa wb : Weights) where
-    pub sum_is : taken (odd f) wa (first_count (flags_from q r i)) +ℤ taken (odd (f / 2)) wb (second_count (flags_from q r i)) ≡ sum_at q r wa wb i
-    unfolding sum_at first_at second_at
-    sum_is =
-        ap₂ (λ a b. taken a wa (first_count (flags_from q r i)) +ℤ taken b wb (second_count (flags_from q r i)))
-        (sym (flag_odd q (r + i) f e.code).0) (sym (flag_odd q (r + i) f e.code).1)
+    -- its sum, which leaves only if both sets have it
+    module _ (ia ib : ℕ) (x y : ℤ) (k : ia ≡ first_count (flags_from q r i)) (l : ib ≡ second_count (flags_from q r i)) (u : x ≡ taken (odd f) wa ia) (v : y ≡ taken (odd (f / 2)) wb ib) where
+      pub sum_is : x +ℤ y ≡ sum_at q r wa wb i
+      unfolding sum_at first_at second_at
+      sum_is = rw ((flag_odd q (r + i) f e.code).0, (flag_odd q (r + i) f e.code).1, u, v, k, l)
 
-    -- a sum that leaves is one of two that both have
-    pub over_is : (s : ℤ) → s ≡ sum_at q r wa wb i → ((odd f && odd (f / 2)) ≡ false → outside s ≡ false) → outside s ≡ over_at q r wa wb i
-    unfolding over_at
-    over_is s z g = rw ((flag_odd q (r + i) f e.code).0, (flag_odd q (r + i) f e.code).1, ← z) (go (odd f && odd (f / 2)) g)
-      where
-        go : (b : Bool) → (b ≡ false → outside s ≡ false) → outside s ≡ (b && outside s)
-        go true g = refl
-        go false g = g refl
+      pub over_is : SFits w32 x → SFits w32 y → outside (x +ℤ y) ≡ over_at q r wa wb i
+      unfolding over_at
+      over_is g h =
+          rw ((flag_odd q (r + i) f e.code).0, (flag_odd q (r + i) f e.code).1, ← sum_is)
+          (go (odd f && odd (f / 2)) (single (odd f) (odd (f / 2)) wa wb ia ib x y u v g h))
+        where
+          go : (b : Bool) → (b ≡ false → outside (x +ℤ y) ≡ false) → outside (x +ℤ y) ≡ (b && outside (x +ℤ y))
+          go true g = refl
+          go false g = g refl
+
+-- a truth value as a number
+pub byte_bit : (b : Bool) → bool_byte b ≡ bit b
+byte_bit true = refl
+byte_bit false = refl
 
 -- ---- One of the first n
 pub below_more : (f : ℕ → Bool) (n : ℕ) → any_below f (suc n) ≡ (any_below f n || f n)

@@ -1,6 +1,6 @@
 -- From two opened encodings of one width, and what merging or subtracting left, to the call.
-use mathlib.Core.Path.{◌≡◌, refl, sym, ap, subst, ◌∙◌}
-use Prim.Native.Nat.{ℕ, ◌*◌, ◌/◌, ◌≤◌}
+use mathlib.Core.Path.{◌≡◌, refl, sym, ap, ◌∙◌}
+use Prim.Native.Nat.{ℕ, ◌/◌, ◌≤◌}
 use mathlib.Core.Bool.{Bool, true, false, false≢true}
 use mathlib.Core.List.{[], ◌∷◌, ◌++◌}
 use mathlib.Core.Option.{some}
@@ -8,27 +8,26 @@ use native.Mathlib.Omega.{arith}
 use lib.ListN.{length}
 use lib.Dec.{eqb}
 use Rattle.loes.specs.Limits.{max_edges}
-use Rattle.loes.specs.Bytes.{Bytes, tabulate, bits_in}
+use Rattle.loes.specs.Bytes.{Bytes, tabulate}
 use Rattle.loes.specs.Entry.{Entry, count, edges_of, with_set}
 use Rattle.loes.specs.Refusals.{wrong_list, overflow, test, first_of}
-use Rattle.loes.specs.Read.{read, entry_in, entry_along}
+use Rattle.loes.specs.Read.{read, opened, entry_in, entry_along}
 use Rattle.loes.specs.Held.{entry_held}
 use Rattle.loes.specs.Model.{refused, refusal, join_tests, union_entry, difference_entry}
 use Rattle.loes.specs.Calls.{after_reading, reading}
 use Rattle.loes.proofs.Tests.{yes_eq, eq_yes, none_first, some_first}
 use Rattle.loes.proofs.Reading.{along_sized}
-use Rattle.encoding.specs.Opened.{Opens}
-use Rattle.encoding.specs.declared.Encoding.{Encoding}
-use Rattle.encoding.proofs.Opened.{opens_valid}
 use Rattle.merge.specs.Union.{Merged}
 use Rattle.restrict.specs.Restriction.{Subtracts}
 use Rattle.join.specs.declared.Join.{Join}
 use Rattle.join.specs.declared.Join.TheVariants as join
-use Rattle.join.specs.Joining.{pair_refusal, Joined, large, queue_for, edges_for, Rooms}
-use Rattle.join.proofs.Joins.{widths_same, pair_refused, first, second, first_held, second_held, same_width, join_sized, joined, held_asked}
+use Rattle.join.specs.Joining.{pair_refusal, Joined}
+use Rattle.join.proofs.Joins.{widths_same, pair_refused, join_sized, held_valid, made}
+use Rattle.join.specs.declared.pair.Pair.{Pair}
+use Rattle.records.specs.declared.edge_bytes.EdgeBytes.{EdgeBytes}
 use Rattle.weights.specs.Weights.{Weights, outputs, leaving, list_test, weight_of, listed, sum_of, sum_test, writes_with, union_weighted, difference_weighted, union_weighted_call, difference_weighted_call}
 use Rattle.weights.specs.Answers.{weighted_call}
-use Rattle.weights.specs.Lists.{sum_at, over_at, any_below, kept_to, FlagsFit, Flagged}
+use Rattle.weights.specs.Lists.{sum_at, over_at, any_below, kept_to, Flagged}
 use Rattle.weights.proofs.Writes.{writes_refused, writes_on}
 use Rattle.weights.proofs.Lists.{list_passes, list_fails, length_listed}
 use Rattle.weights.proofs.Members.{sums_listed, sums_tested, kept_listed}
@@ -71,63 +70,47 @@ module _ (e f : Entry) (same : e.width ≡ f.width) (we wf : Weights) (out : Byt
       writes_on (join_tests e f ++ list_test e we ∷ []) _ _ _ out ws
       (none_first (join_tests e f) _ (widths_same e f same) ∙ unfold first_of in rw (list_passes e we l))
 
-module _ (a b : Bytes) (e f : Encoding) (p : Opens a e) (q : Opens b f) (w : e.width ≡ f.width) where
-  pub alike : (entry_in a).width ≡ (entry_in b).width
-  alike = same_width join.Union a b e f p q w
+-- ---- The edges of two entries of one width
+module _ (x y : EdgeBytes) (w : x.width ≡ y.width) where
+  abbrev d : Entry
+  d = entry_held x.width x.bits x.bytes.now
+
+  abbrev e : Entry
+  e = entry_held y.width y.bits y.bytes.now
+
+  alike : d.width ≡ e.width
+  alike = unfold entry_held entry_along in w
 
   -- ---- What merging left
-  module _ (Q P : Bytes) (k n : ℕ)
-      (r : Merged (entry_held e.width e.bits (first join.Union a b e f p q w)) (entry_held e.width f.bits (second join.Union a b e f p q w)) Q P k n) where
-    merged : Merged (entry_in a) (entry_in b) Q P k n
-    merged =
-        subst (λ x. Merged x (entry_in b) Q P k n) (first_held join.Union a b e f p q w)
-        (subst (λ x. Merged (entry_held e.width e.bits (first join.Union a b e f p q w)) x Q P k n) (second_held join.Union a b e f p q w) r)
+  module _ (Q P : Bytes) (k n : ℕ) (r : Merged d e Q P k n) where
+    union_held : entry_held x.width k P ≡ union_entry d e
+    unfolding entry_held entry_along with_set
+    union_held = ap (entry_along x.width) r.edges ∙ along_sized (union_entry d e) x.holds.positive (join_sized join.Union d e (held_valid x.holds) (held_valid y.holds) alike)
 
-    union_held : entry_held e.width k P ≡ union_entry (entry_in a) (entry_in b)
-    unfolding entry_held with_set
-    union_held =
-        ap (λ m. entry_along m (bits_in P k)) p.width ∙ ap (entry_along (entry_in a).width) merged.edges
-        ∙ along_sized (union_entry (entry_in a) (entry_in b)) (opens_valid a e p).positive (join_sized join.Union (entry_in a) (entry_in b) (opens_valid a e p) (opens_valid b f q) alike)
-
-    pub union_flagged : length Q ≤ max_edges → Flagged e.width k n P
+    pub union_flagged : length Q ≤ max_edges → Flagged x.width k n P
     union_flagged small =
         record {
-          positive = omega (arith, p.width, (opens_valid a e p).positive);
-          same = ap edges_of union_held ∙ sym merged.edges;
-          flags = record { fits = merged.flags.fits; small = omega (arith, merged.size) };
+          positive = x.holds.positive;
+          same = ap edges_of union_held ∙ sym r.edges;
+          flags = record { fits = r.flags.fits; small = omega (arith, r.size) };
         }
 
-    pub union_call : (wa wb : Weights) (out : Bytes) (ws : Weights) → length wa ≡ count (entry_in a) → length wb ≡ count (entry_in b)
-        → writes_with [] (test (any_below (over_at P (k / 2) wa wb) n) overflow ∷ []) (entry_held e.width k P) (tabulate (sum_at P (k / 2) wa wb) n) out ws
-        ≡ union_weighted (entry_in a) wa (entry_in b) wb out ws
+    pub union_call : (wa wb : Weights) (out : Bytes) (ws : Weights) → length wa ≡ count d → length wb ≡ count e
+        → writes_with [] (test (any_below (over_at P (k / 2) wa wb) n) overflow ∷ []) (entry_held x.width k P) (tabulate (sum_at P (k / 2) wa wb) n) out ws ≡ union_weighted d wa e wb out ws
     union_call wa wb out ws la lb =
-        rw (union_held, sums_listed alike merged.flags wa wb, sums_tested alike merged.flags wa wb)
-        (sym (union_on (entry_in a) (entry_in b) alike wa wb out ws la lb ∙ unfold sum_test in refl))
+        rw (union_held, sums_listed alike r.flags wa wb, sums_tested alike r.flags wa wb) (sym (union_on d e alike wa wb out ws la lb ∙ unfold sum_test in refl))
 
   -- ---- What subtracting left
-  module _ (Q O P U : Bytes) (k r n : ℕ)
-      (d : Subtracts (entry_held e.width e.bits (first join.Difference a b e f p q w)) (entry_held e.width f.bits (second join.Difference a b e f p q w)) Q O P U k r n) where
-    subtracts : Subtracts (entry_in a) (entry_in b) Q O P U k r n
-    subtracts =
-        subst (λ x. Subtracts x (entry_in b) Q O P U k r n) (first_held join.Difference a b e f p q w)
-        (subst (λ x. Subtracts (entry_held e.width e.bits (first join.Difference a b e f p q w)) x Q O P U k r n) (second_held join.Difference a b e f p q w) d)
-
-    pub difference_joined : Joined e.width k U
-    difference_joined = joined join.Difference a b e f p q w O U k d.edges
-
-    pub difference_flags : length Q ≤ max_edges → FlagsFit P r n
-    difference_flags small = record { fits = subtracts.flags.fits; small = rw subtracts.queue small }
+  module _ (Q O P U : Bytes) (k r n : ℕ) (s : Subtracts d e Q O P U k r n) where
+    pub difference_made : Joined x.width k U × (entry_held x.width k U ≡ difference_entry d e)
+    difference_made = made join.Difference x.holds y.holds w s.edges
 
     -- as many entries as members are left
-    pub difference_count : (wa : Weights) → length (kept_to P r wa n) ≡ count (entry_held e.width k U)
-    difference_count wa =
-        ap length (kept_listed alike subtracts.flags wa) ∙ length_listed (difference_entry (entry_in a) (entry_in b)) (weight_of (entry_in a) wa) ∙ ap count (sym (held_asked join.Difference a b e f p q w O U k d.edges))
+    pub difference_count : (wa : Weights) → length (kept_to P r wa n) ≡ count (entry_held x.width k U)
+    difference_count wa = ap length (kept_listed alike s.flags wa) ∙ length_listed (difference_entry d e) (weight_of d wa) ∙ ap count (sym difference_made.1)
 
-    pub difference_call : (wa : Weights) (out : Bytes) (ws : Weights) → length wa ≡ count (entry_in a)
-        → writes_with [] [] (entry_held e.width k U) (kept_to P r wa n) out ws ≡ difference_weighted (entry_in a) wa (entry_in b) out ws
-    difference_call wa out ws la =
-        rw (held_asked join.Difference a b e f p q w O U k d.edges, kept_listed alike subtracts.flags wa)
-        (sym (difference_on (entry_in a) (entry_in b) alike wa wa out ws la))
+    pub difference_call : (wa : Weights) (out : Bytes) (ws : Weights) → length wa ≡ count d → writes_with [] [] (entry_held x.width k U) (kept_to P r wa n) out ws ≡ difference_weighted d wa e out ws
+    difference_call wa out ws la = rw (difference_made.1, kept_listed alike s.flags wa) (sym (difference_on d e alike wa wa out ws la))
 
 -- ---- The call, by what opening both told
 pub call_refused : (kind : Join) (a b : Bytes) (k : ℕ) → pair_refusal (read a) (read b) ≡ some k → (wa wb : Weights) (out : Bytes) (ws : Weights)
@@ -138,22 +121,17 @@ call_refused join.Union a b k h wa wb out ws =
 call_refused join.Difference a b k h wa wb out ws =
     pair_refused a b k (outputs (out ∷ []) ws) _ h (λ e f z. writes_refused _ _ _ _ out ws k (some_first (join_tests e f) _ k z))
 
-module _ (a b : Bytes) (e f : Encoding) (p : Opens a e) (q : Opens b f) (wa wb : Weights) (out : Bytes) (ws : Weights) where
-  pub union_opened : union_weighted (entry_in a) wa (entry_in b) wb out ws ≡ union_weighted_call a wa b wb out ws
+module _ (p : Pair) (a b : Bytes) (ha : p.first.bytes.now ≡ a) (hb : p.second.bytes.now ≡ b) (wa wb : Weights) (out : Bytes) (ws : Weights) where
+  reads_first : read a ≡ opened (entry_in p.first.bytes.now)
+  reads_first = rw (← ha) p.first.opens.reads
+
+  reads_second : read b ≡ opened (entry_in p.second.bytes.now)
+  reads_second = rw (← hb) p.second.opens.reads
+
+  pub union_opened : union_weighted (entry_in p.first.bytes.now) wa (entry_in p.second.bytes.now) wb out ws ≡ union_weighted_call a wa b wb out ws
   unfolding union_weighted_call reading after_reading
-  union_opened = rw (p.reads, q.reads)
+  union_opened = rw (reads_first, reads_second)
 
-  pub difference_opened : difference_weighted (entry_in a) wa (entry_in b) out ws ≡ difference_weighted_call a wa b out ws
+  pub difference_opened : difference_weighted (entry_in p.first.bytes.now) wa (entry_in p.second.bytes.now) out ws ≡ difference_weighted_call a wa b out ws
   unfolding difference_weighted_call reading after_reading
-  difference_opened = rw (p.reads, q.reads)
-
--- ---- Rooms: a queue and room for edges of n bytes are enough for two encodings of at most 8 n edges
-pub rooms_for : (n x y : ℕ) (q l : Bytes) → n ≤ large → ((b : ℕ) → b ≤ 8 * x → b ≤ max_edges → b ≤ 8 * n) → ((b : ℕ) → b ≤ 8 * y → b ≤ max_edges → b ≤ 8 * n)
-    → length q ≡ queue_for n → length l ≡ edges_for n → Rooms x y q l
-rooms_for n x y q l most first second queue edges =
-    record {
-      enough = λ ba bb i j h k.
-          (record { queue = omega (arith, queue, first ba i j, second bb h k); small = omega (arith, queue, most) }, omega (arith, edges, first ba i j));
-      queue = omega (arith, queue, most);
-      edges = omega (arith, edges, most);
-    }
+  difference_opened = rw (reads_first, reads_second)

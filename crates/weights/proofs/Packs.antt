@@ -2,13 +2,13 @@
 use mathlib.Core.Path.{◌≡◌, refl, sym, ap, ap₂, ◌∙◌}
 use Prim.Native.Nat.{ℕ, ◌≤◌, ◌<◌}
 use mathlib.Core.Bool.{Bool, true, false, cond, or-true}
-use mathlib.Core.List.{[], ◌∷◌, append_assoc}
+use mathlib.Core.List.{List, [], ◌∷◌, map, append_assoc}
 use mathlib.Core.Option.{none, some}
 use native.Mathlib.Omega.{arith}
-use lib.ListN.{length}
+use lib.ListN.{length, replicate}
 use lib.Dec.{ltb}
 use Rattle.loes.specs.Limits.{max_edges}
-use Rattle.loes.specs.Bytes.{Bytes, tabulate, front}
+use Rattle.loes.specs.Bytes.{Bytes, front}
 use Rattle.loes.specs.Keys.{Key}
 use Rattle.loes.specs.Entry.{Entry, keys_of, count, edge_count, too_many_edges}
 use Rattle.loes.specs.Encode.{encode}
@@ -23,16 +23,19 @@ use Rattle.pack.proofs.Written.{batch_length, call_short, call_fits}
 use Rattle.weights.specs.Weights.{Weights, no_weight, listed, WeightedOutcome, leaving, writes_with, pack_weighted_call}
 use Rattle.weights.specs.History.{changes}
 use Rattle.weights.proofs.Lists.{length_listed}
-use Rattle.weights.proofs.Members.{tabulate_map}
 use Rattle.weights.proofs.Writes.{checked_refused, writes_on, writes_short, writes_fits}
 
 abbrev pub zeros : ℕ → Weights
-zeros n = tabulate (λ (i : ℕ). no_weight) n
+zeros n = replicate n no_weight
 
 -- they are the list of an entry whose keys weigh nothing
 zeros_listed : (e : Entry) → zeros (count e) ≡ listed e (λ (k : Key). no_weight)
 unfolding listed count
-zeros_listed e = tabulate_map (λ (i : ℕ). no_weight) (λ (k : Key). no_weight) (keys_of e) (count e) [] refl (λ i h. refl)
+zeros_listed e = go (keys_of e)
+  where
+    go : (l : List Key) → zeros (length l) ≡ map (λ (k : Key). no_weight) l
+    go [] = refl
+    go (x ∷ l) = ap (λ ws. no_weight ∷ ws) (go l)
 
 -- an outcome of pack, with a list beside it: n zeros come to the list's front if the batch was packed
 unfoldable pub with_zeros : ℕ → Weights → Outcome → WeightedOutcome
@@ -88,3 +91,7 @@ module _ (m : ℕ) (l out : Bytes) (ws : Weights) where
             writes_fits [] e list out ws few (rw (z, room)) (unfold first_of in refl)
             ∙ ap₂ (λ n x. leaving (wrote (n ∷ [])) (front (encode e) out ∷ []) (front x ws)) long (sym (zeros_listed e))
             ∙ sym (ap (with_zeros (count e) ws) (call_fits m (edge_count e) l accepted refl out (omega (arith, no_lt (length out) (length (encode e)) z, long))) ∙ unfold with_zeros changes in refl)
+
+    -- the same, of what pack left
+    pub as_packed : (n : ℕ) (o : Outcome) → n ≡ count e → n ≤ length ws → o ≡ pack_call m l out → with_zeros n ws o ≡ pack_weighted_call m l out ws
+    as_packed n o z r h = rw (z, h) (sym (weighted_as_packed (omega (arith, z))))

@@ -15,8 +15,10 @@ use Rattle.loes.specs.Refusals.{bad_key, wrong_list, overflow, test, first_of}
 use Rattle.loes.specs.Model.{refused, is_absent, index_is, is_posted, Outcome, refusal, refused_or, tested, answers, key_in, unused_set, key_test, index_of}
 use Rattle.loes.proofs.Histories.{length_key}
 use Rattle.query.specs.Answers.{lookup_outcome}
-use Rattle.query.specs.declared.Lookup.{Lookup}
-use Rattle.query.specs.declared.Lookup.TheVariants as lookup
+use Rattle.std.specs.Prelude.{Option, Some, None, Result, Ok, Err}
+use Rattle.loes.specs.Numbers.{number_of}
+use Rattle.loes.specs.declared.refusal.Refusal.{Refusal}
+use Rattle.bits.specs.declared.MemberIndex.{MemberIndex}
 use Rattle.weights.specs.Weights.{Weights, no_weight, weight_of, outside, leaving, checked, post}
 use Rattle.weights.specs.Answers.{posted_at}
 use Rattle.weights.proofs.Lists.{list_passes, list_fails, index_below}
@@ -63,10 +65,10 @@ module _ (e : Entry) (ws : Weights) (x : Bytes) (amount : ℤ) where
         go false o = post_posts z i (rw here o) ∙ rw here
 
 -- ---- What a lookup says of a post to a list of the right length
-abbrev pub Finds : Entry → Bytes → Lookup → Type 0
-Finds e x (lookup.Refused k) = (ws : Weights) (amount : ℤ) → length ws ≡ count e → post e ws x amount ≡ leaving (refused k) [] ws
-Finds e x lookup.Absent = (ws : Weights) (amount : ℤ) → length ws ≡ count e → post e ws x amount ≡ leaving is_absent [] ws
-Finds e x (lookup.Index i) = (i.0 < count e) × ((ws : Weights) (amount : ℤ) → length ws ≡ count e → post e ws x amount ≡ posted_at ws i.0 amount)
+abbrev pub Finds : Entry → Bytes → Result (Option MemberIndex) Refusal → Type 0
+Finds e x (Err k) = (ws : Weights) (amount : ℤ) → length ws ≡ count e → post e ws x amount ≡ leaving (refused (number_of k)) [] ws
+Finds e x (Ok None) = (ws : Weights) (amount : ℤ) → length ws ≡ count e → post e ws x amount ≡ leaving is_absent [] ws
+Finds e x (Ok (Some i)) = (i.0 < count e) × ((ws : Weights) (amount : ℤ) → length ws ≡ count e → post e ws x amount ≡ posted_at ws i.0 amount)
 
 module _ (e : Entry) (x : Bytes) where
   abbrev key : Key
@@ -91,31 +93,31 @@ module _ (e : Entry) (x : Bytes) where
   unfolding key_test test
   key_good z = rw z
 
-  pub finds : (r : Lookup) → lookup_outcome r ≡ (index_of e x).outcome → Finds e x r
-  finds (lookup.Refused k) h = go bad refl (e.set key) refl
+  pub finds : (r : Result (Option MemberIndex) Refusal) → lookup_outcome r ≡ (index_of e x).outcome → Finds e x r
+  finds (Err k) h = go bad refl (e.set key) refl
     where
-      told : refused k ≡ (index_of e x).outcome.answer
+      told : refused (number_of k) ≡ (index_of e x).outcome.answer
       told = ap (λ (o : Outcome). o.answer) h
 
-      go : (b : Bool) → bad ≡ b → (p : Bool) → e.set key ≡ p → Finds e x (lookup.Refused k)
-      go true z p y = λ ws amount long. post_bad_key e ws x amount long bad_key (key_bad z) ∙ ap (λ n. leaving (refused n) [] ws) (let q = answer_bad z in let w : bad_key ≡ k = cc in w)
+      go : (b : Bool) → bad ≡ b → (p : Bool) → e.set key ≡ p → Finds e x (Err k)
+      go true z p y = λ ws amount long. post_bad_key e ws x amount long bad_key (key_bad z) ∙ ap (λ n. leaving (refused n) [] ws) (let q = answer_bad z in let w : bad_key ≡ number_of k = cc in w)
       go false z true y = let q = answer_good true z y in let w : ◌≡◌ {A = ℕ} 0 1 = cc in absurd (let n : ⊥ = omega arith in n)
       go false z false y = let q = answer_good false z y in let w : ◌≡◌ {A = ℕ} 0 1 = cc in absurd (let n : ⊥ = omega arith in n)
-  finds lookup.Absent h = go bad refl (e.set key) refl
+  finds (Ok None) h = go bad refl (e.set key) refl
     where
       told : is_absent ≡ (index_of e x).outcome.answer
       told = ap (λ (o : Outcome). o.answer) h
 
-      go : (b : Bool) → bad ≡ b → (p : Bool) → e.set key ≡ p → Finds e x lookup.Absent
+      go : (b : Bool) → bad ≡ b → (p : Bool) → e.set key ≡ p → Finds e x (Ok None)
       go true z p y = let q = answer_bad z in let w : ◌≡◌ {A = ℕ} 0 1 = cc in absurd (let n : ⊥ = omega arith in n)
       go false z true y = let q = answer_good true z y in let w : ◌≡◌ {A = ℕ} 0 1 = cc in absurd (let n : ⊥ = omega arith in n)
       go false z false y = λ ws amount long. post_absent e ws x amount long (key_good z) y
-  finds (lookup.Index i) h = go bad refl (e.set key) refl
+  finds (Ok (Some i)) h = go bad refl (e.set key) refl
     where
       told : index_is i.0 ≡ (index_of e x).outcome.answer
       told = ap (λ (o : Outcome). o.answer) h
 
-      go : (b : Bool) → bad ≡ b → (p : Bool) → e.set key ≡ p → Finds e x (lookup.Index i)
+      go : (b : Bool) → bad ≡ b → (p : Bool) → e.set key ≡ p → Finds e x (Ok (Some i))
       go true z p y = let q = answer_bad z in let w : ◌≡◌ {A = ℕ} 0 1 = cc in absurd (let n : ⊥ = omega arith in n)
       go false z false y = let q = answer_good false z y in let w : ◌≡◌ {A = ℕ} 0 1 = cc in absurd (let n : ⊥ = omega arith in n)
       go false z true y =

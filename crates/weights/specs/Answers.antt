@@ -1,24 +1,22 @@
 -- What each answer of the calls says, with the lent outputs at exit; a post at a place; and a join with lists by its kind.
-use Rattle.std.specs.Prelude.{cond, [], ◌∷◌, ℕ, ℤ, ◌+ℤ◌, get_or, set}
+use Rattle.std.specs.Prelude.{cond, [], ◌∷◌, ℕ, ℤ, ◌+ℤ◌, Bool, true, false, get_or, set, Result, Ok, Err}
 use Rattle.loes.specs.Bytes.{Bytes}
 use Rattle.loes.specs.Refusals.{overflow}
+use Rattle.loes.specs.Numbers.{number_of}
+use Rattle.loes.specs.declared.refusal.Refusal.{Refusal}
 use Rattle.loes.specs.Model.{refused, wrote, is_posted, is_absent}
-use Rattle.build.specs.declared.Written.{Written}
-use Rattle.build.specs.declared.Written.TheVariants as written
 use Rattle.join.specs.declared.Join.{Join}
 use Rattle.join.specs.declared.Join.TheVariants as join
 use Rattle.weights.specs.Weights.{Weights, no_weight, outside, WeightedOutcome, leaving, union_weighted_call, difference_weighted_call}
-use Rattle.weights.specs.declared.Posting.{Posting}
-use Rattle.weights.specs.declared.Posting.TheVariants as posting
 
-abbrev pub posting_outcome : Posting → Weights → WeightedOutcome
-posting_outcome (posting.Refused k) ws = leaving (refused k) [] ws
-posting_outcome posting.Posted ws = leaving is_posted [] ws
-posting_outcome posting.Absent ws = leaving is_absent [] ws
+abbrev pub posting_outcome : Result Bool Refusal → Weights → WeightedOutcome
+posting_outcome (Err k) ws = leaving (refused (number_of k)) [] ws
+posting_outcome (Ok true) ws = leaving is_posted [] ws
+posting_outcome (Ok false) ws = leaving is_absent [] ws
 
-abbrev pub weighted_outcome : Written → Bytes → Weights → WeightedOutcome
-weighted_outcome (written.Refused k) out ws = leaving (refused k) (out ∷ []) ws
-weighted_outcome (written.Length n) out ws = leaving (wrote (n ∷ [])) (out ∷ []) ws
+abbrev pub weighted_outcome : Result ℕ Refusal → Bytes → Weights → WeightedOutcome
+weighted_outcome (Err k) out ws = leaving (refused (number_of k)) (out ∷ []) ws
+weighted_outcome (Ok n) out ws = leaving (wrote (n ∷ [])) (out ∷ []) ws
 
 -- an amount to the entry at a place, unless the sum leaves 32 signed bits
 unfoldable pub posted_at : Weights → ℕ → ℤ → WeightedOutcome

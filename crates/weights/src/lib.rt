@@ -1,222 +1,61 @@
 // Weights beside an encoding: a list of signed numbers of 32 bits, entry i for the member at index i.
 #![tactic(auto)]
 
-ghost use Rattle.std.specs.Prelude.{ℕ, ◌+◌, ◌*◌, ◌/◌, ◌≤◌, ◌<◌, ◌≡◌, [], ◌∷◌, true, false, ◌&&◌, ◌||◌, ◌+ℤ◌, length, get_or, ltb};
-ghost use Rattle.loes.specs.Limits.{max_width, max_edges};
+ghost use Rattle.std.specs.Prelude.{ℤ, ◌*◌, ◌/◌, ◌≤◌, ◌<◌, ◌≡◌, [], ◌∷◌, false, ◌&&◌, ◌+ℤ◌, length, get_or, SomeIff};
+ghost use Rattle.loes.specs.Limits.{max_width};
 ghost use Rattle.loes.specs.Bytes.{odd, tabulate};
 ghost use Rattle.loes.specs.Entry.{count, edge_count};
 ghost use Rattle.loes.specs.Held.{entry_held};
 ghost use Rattle.loes.specs.Model.{batch_entry};
-ghost use Rattle.loes.specs.Read.{entry_in, end_of};
+ghost use Rattle.loes.specs.Read.{entry_in};
 ghost use Rattle.loes.specs.Refusals.{overflow, test};
-ghost use Rattle.bits.specs.Tables.{Tallies};
-ghost use Rattle.encoding.specs.Opened.{Opens};
 ghost use Rattle.pack.specs.Packing.{Ready};
 ghost use Rattle.merge.specs.Union.{QueueRoom};
-ghost use Rattle.join.specs.Joining.{Joined, tiny, small, middle, Rooms};
+ghost use Rattle.join.specs.Joining.{RoomFor};
 ghost use Rattle.weights.specs.Weights.{outside, no_weight, writes_with, post as postTo, union_weighted, difference_weighted, pack_weighted_call, post_call, union_weighted_call, difference_weighted_call};
 ghost use Rattle.weights.specs.Answers.{posting_outcome, weighted_outcome, posted_at, weighted_call};
-ghost use Rattle.weights.specs.Lists.{taken, sum_at, over_at, any_below, kept_to, FlagsFit, Flagged, FlagRead};
+ghost use Rattle.weights.specs.Lists.{taken, sum_at, over_at, any_below, kept_to, Flagged};
+
+pub mod member_flags;
 
 use bits::RecordIndex;
-use build::Written;
-use encoding::{Checked, Encoding};
-use join::{Join, Pair};
-use loes::refusal;
+use encoding::Encoding;
+use encoding::opening::Opened;
+use join::Join;
+use join::joined::JoinedEdges;
+use join::pair::Pair;
+use loes::Refusal;
+use member_flags::MemberFlags;
 use merge::Sizes;
-use pack::Verdict;
-use query::Lookup;
-use restrict::Remainder;
-
-// ---- Sums, and their range
-// The sum of two weights, at 64 bits.
-fn sum(a: i32, b: i32) -> i64
-    ensures { result ≡ a +ℤ b }
-{
-    a as i64 + b as i64
-}
-
-// The ends of 32 signed bits.
-const LEAST: i64 = -2147483648;
-
-const GREATEST: i64 = 2147483647;
-
-// Whether a sum leaves 32 signed bits, at either end.
-fn is_outside(s: i64) -> bool
-    ensures { result ≡ outside s }
-{
-    if s < LEAST { true } else { GREATEST < s }
-}
-
-// Either of two.
-fn either(a: bool, b: bool) -> bool
-    ensures { result ≡ (a || b) }
-{
-    if a { true } else { b }
-}
-
-// ---- Lists of two sets, read in step with the flags of their union's members. A weight is read before its flag says whether to take it, so that no load waits for its own flag and the choice takes no jump.
-// Weight i of a list, or 0 where there is none.
-fn weight_at(ws: &[i32], i: usize) -> i32
-    ensures { result ≡ get_or ws.now i no_weight }
-{
-    if i < ws.len() { ws[i] } else { 0 }
-}
-
-// The same if f is odd, else 0.
-fn weight_if(f: u8, ws: &[i32], i: usize) -> i32
-    ensures { result ≡ taken (odd f) ws.now i }
-{
-    let x = weight_at(ws, i);
-    if f % 2 == 1 { x } else { 0 }
-}
-
-// Both weights of a member with flag f, added; the sum leaves 32 bits only if both sets have it.
-fn sum_at(f: u8, wa: &[i32], ia: usize, wb: &[i32], ib: usize) -> i64
-    ensures { (result ≡ taken (odd f) wa.now ia +ℤ taken (odd (f / 2)) wb.now ib) × ((odd f && odd (f / 2)) ≡ false → outside result ≡ false) }
-{
-    let x = weight_if(f, wa, ia);
-    let y = weight_if(f / 2, wb, ib);
-    sum(x, y)
-}
-
-// The flag of member i, of those from place r on.
-fn flag_at(q: &[u8], r: RecordIndex, i: usize) -> u8
-    requires { FlagsFit q.now r.0 (i + 1) }
-    ensures { FlagRead q.now r.0 i result }
-{
-    let at = r.0 + i;
-    records::record_at(q, RecordIndex(at))
-}
-
-// Whether some member of both has a sum that leaves 32 signed bits.
-fn any_outside(q: &[u8], r: RecordIndex, n: usize, wa: &[i32], wb: &[i32]) -> bool
-    requires { FlagsFit q.now r.0 n }
-    ensures { result ≡ any_below (over_at q.now r.0 wa.now wb.now) n }
-{
-    let mut ia: usize = 0;
-    let mut ib: usize = 0;
-    let mut over = false;
-    let mut i = 0;
-    while i < n {
-        let f = flag_at(q, r, i);
-        let s = sum_at(f, wa, ia, wb, ib);
-        over = either(over, is_outside(s));
-        ia += (f % 2) as usize;
-        ib += (f / 2) as usize;
-        i += 1;
-    }
-    over
-}
-
-// Writes the sums of all members to a list of as many entries: none leaves 32 signed bits.
-fn write_sums(q: &[u8], r: RecordIndex, wa: &[i32], wb: &[i32], list: &mut [i32])
-    requires { FlagsFit q.now r.0 (length list.old) × (any_below (over_at q.now r.0 wa.now wb.now) (length list.old) ≡ false) }
-    ensures { list.new ≡ tabulate (sum_at q.now r.0 wa.now wb.now) (length list.old) }
-{
-    let mut ia: usize = 0;
-    let mut ib: usize = 0;
-    let mut i = 0;
-    while i < list.len() {
-        let f = flag_at(q, r, i);
-        let s = sum_at(f, wa, ia, wb, ib);
-        list[i] = s as i32;
-        ia += (f % 2) as usize;
-        ib += (f / 2) as usize;
-        i += 1;
-    }
-}
-
-// Writes the weights of the members that only the first has to a list of as many. Each weight is put at the next place, kept or not: the next one that is kept is put over one that is not.
-fn write_kept(q: &[u8], r: RecordIndex, n: usize, wa: &[i32], list: &mut [i32])
-    requires { FlagsFit q.now r.0 n × (length list.old ≡ length (kept_to q.now r.0 wa.now n)) }
-    ensures { list.new ≡ kept_to q.now r.0 wa.now n }
-{
-    let mut ia: usize = 0;
-    let mut k: usize = 0;
-    let mut i = 0;
-    while i < n {
-        let f = flag_at(q, r, i);
-        let x = weight_at(wa, ia);
-        if k < list.len() {
-            list[k] = x;
-        }
-        ia += (f % 2) as usize;
-        k += (f == restrict::FIRST_ONLY) as usize;
-        i += 1;
-    }
-}
-
-// Writes zeros.
-fn clear(list: &mut [i32])
-    ensures { list.new ≡ tabulate (λ (i : ℕ). no_weight) (length list.old) }
-{
-    let mut i = 0;
-    while i < list.len() {
-        list[i] = 0;
-        i += 1;
-    }
-}
 
 // ---- Post
-// Whether it was posted.
-#[derive(Clone, Copy)]
-pub enum Posting {
-    Refused(u8),
-    Posted,
-    Absent,
-}
-
 // Adds an amount to the weight at a place, unless the sum leaves 32 signed bits: nothing is written before that is known.
-fn post_at(list: &mut [i32], k: usize, amount: i32) -> Posting
+fn post_at(list: &mut [i32], k: usize, amount: i32) -> Result<bool, Refusal>
     requires { k < length list.old }
     ensures { posting_outcome result list.new ≡ posted_at list.old k amount }
 {
-    let old = list[k];
-    let s = sum(old, amount);
-    if is_outside(s) {
-        return Posting::Refused(refusal::OVERFLOW);
-    }
-    list[k] = s as i32;
-    Posting::Posted
+    list[k] = list[k].checked_add(amount).ok_or(Refusal::Overflow)?;
+    Ok(true)
 }
 
-// Behind the check: 16, then 8, then 17.
-pub fn post_in(
-    l: &[u8],
-    t: &[u8],
-    e: Encoding,
-    list: &mut [i32],
-    key: &[u8],
-    amount: i32,
-) -> Posting
-    requires { Opens l.now e × Tallies t.now }
-    ensures { posting_outcome result list.new ≡ postTo (entry_in l.now) list.old key.now amount }
+// To an opened encoding's list: 16, then 8, then 17; whether it was posted.
+pub fn post_in(o: Opened<'_>, list: &mut [i32], key: &[u8], amount: i32) -> Result<bool, Refusal>
+    ensures { posting_outcome result list.new ≡ postTo (entry_in o.entry.bytes.now) list.old key.now amount }
 {
-    if list.len() != e.count {
-        return Posting::Refused(refusal::WRONG_LIST);
+    if list.len() != o.encoding.count {
+        return Err(Refusal::WrongList);
     }
-    let found = query::index_of_in(l, t, e, key);
-    match found {
-        Lookup::Refused(k) => Posting::Refused(k),
-        Lookup::Absent => Posting::Absent,
-        Lookup::Index(i) => {
-            let k = i.0;
-            post_at(list, k, amount)
-        }
+    match query::index_of_in(o, key)? {
+        None => Ok(false),
+        Some(i) => post_at(list, i.0, amount),
     }
 }
 
 // Adds an amount to the weight of a key, if it is a member.
-pub fn post(l: &[u8], list: &mut [i32], key: &[u8], amount: i32) -> Posting
+pub fn post(l: &[u8], list: &mut [i32], key: &[u8], amount: i32) -> Result<bool, Refusal>
     ensures { posting_outcome result list.new ≡ post_call l.now list.old key.now amount }
 {
-    let t = bits::tallies();
-    let checked = encoding::check(l, &t);
-    match checked {
-        Checked::Refused(k) => Posting::Refused(k),
-        Checked::Opened(e) => post_in(l, &t, e, list, key, amount),
-    }
+    post_in(encoding::open(l)?, list, key, amount)
 }
 
 // ---- Pack
@@ -228,187 +67,176 @@ fn write_packed(
     levels: &mut [usize],
     out: &mut [u8],
     list: &mut [i32],
-) -> Written
+) -> Result<usize, Refusal>
     requires { Ready m batch.now levels.old × (b ≡ edge_count (batch_entry m batch.now)) × (length levels.old ≡ max_width) }
     ensures { weighted_outcome result out.new list.new ≡ pack_weighted_call m batch.now out.old list.old }
 {
     let n = pack::count_members(m, batch);
     if list.len() < n {
-        return Written::Refused(refusal::SHORT_BUFFER);
+        return Err(Refusal::ShortBuffer);
     }
-    let packed = pack::write_planned(m, b, batch, levels, out);
-    match packed {
-        Written::Refused(k) => Written::Refused(k),
-        Written::Length(size) => {
-            clear(&mut list[..n]);
-            Written::Length(size)
-        }
-    }
+    let size = pack::write_planned(m, b, batch, levels, out)?;
+    list[..n].fill(0);
+    Ok(size)
 }
 
 // Packs a batch, with a list of zeros.
-pub fn pack_weighted(m: usize, batch: &[u8], out: &mut [u8], list: &mut [i32]) -> Written
+pub fn pack_weighted(
+    m: usize,
+    batch: &[u8],
+    out: &mut [u8],
+    list: &mut [i32],
+) -> Result<usize, Refusal>
     ensures { weighted_outcome result out.new list.new ≡ pack_weighted_call m batch.now out.old list.old }
 {
     let mut levels = pack::no_records();
-    let planned = pack::plan(m, batch, &mut levels);
-    match planned {
-        Verdict::Refused(k) => Written::Refused(k),
-        Verdict::Accepted(b) => write_packed(m, b, batch, &mut levels, out, list),
-    }
+    let b = pack::plan(m, batch, &mut levels)?;
+    write_packed(m, b, batch, &mut levels, out, list)
 }
 
 // ---- Joins: every test is done before the first entry or byte is written
-// The test of 14: whether a buffer is too short for an encoding of width m with b edge bits, or a list for its n entries.
-fn either_short(m: usize, b: usize, n: usize, room: usize, places: usize) -> bool
-    requires { (m ≤ max_width) × (b ≤ max_edges) }
-    ensures { result ≡ (ltb room (end_of m b) || ltb places n) }
-{
-    either(build::too_short(m, b, room), places < n)
-}
-
-// The union's encoding and its list, from what merging left in the queue: 5, 14, 17.
+// The union's encoding and its list, from what merging left in the queue: 5, 14, 17. The sums are read before the edges' last byte is sealed, since the first flags stand in it.
 fn write_union(
-    m: usize,
+    width: usize,
     u: Sizes,
-    t: &[u8],
     q: &mut [u8],
     wa: &[i32],
     wb: &[i32],
     out: &mut [u8],
     list: &mut [i32],
-) -> Written
-    requires { Flagged m u.edges u.members q.old × (m ≤ max_width) × Tallies t.now }
-    ensures { weighted_outcome result out.new list.new ≡ writes_with [] (test (any_below (over_at q.old (u.edges / 2) wa.now wb.now) u.members) overflow ∷ []) (entry_held m u.edges q.old) (tabulate (sum_at q.old (u.edges / 2) wa.now wb.now) u.members) out.old list.old }
+) -> Result<usize, Refusal>
+    requires { Flagged width u.edges u.members q.old × (width ≤ max_width) }
+    ensures { weighted_outcome result out.new list.new ≡ writes_with [] (test (any_below (over_at q.old (u.edges / 2) wa.now wb.now) u.members) overflow ∷ []) (entry_held width u.edges q.old) (tabulate (sum_at q.old (u.edges / 2) wa.now wb.now) u.members) out.old list.old }
 {
-    let k = u.edges;
-    let n = u.members;
-    if k > Encoding::MAX_EDGES {
-        return Written::Refused(refusal::TOO_LARGE);
+    if u.edges > Encoding::MAX_EDGES {
+        return Err(Refusal::TooLarge);
     }
-    if either_short(m, k, n, out.len(), list.len()) {
-        return Written::Refused(refusal::SHORT_BUFFER);
+    if build::too_short(width, u.edges, out.len()) || list.len() < u.members {
+        return Err(Refusal::ShortBuffer);
     }
-    let r = RecordIndex(k / 2);
-    if any_outside(q, r, n, wa, wb) {
-        return Written::Refused(refusal::OVERFLOW);
+    let first = RecordIndex(u.edges / 2);
+    let flags = MemberFlags {
+        queue: q,
+        first,
+        count: u.members,
+    };
+    if flags.any_outside(wa, wb) {
+        return Err(Refusal::Overflow);
     }
-    write_sums(q, r, wa, wb, &mut list[..n]);
-    records::seal(q, r);
-    Written::Length(join::put_encoding(m, k, q, t, out))
+    flags.write_sums(wa, wb, &mut list[..u.members]);
+    records::seal(q, first);
+    let joined = JoinedEdges {
+        width,
+        bits: u.edges,
+        bytes: q,
+    };
+    Ok(joined.put(out))
 }
 
 // The difference's encoding and its list, from what subtracting left: 5, 14.
 fn write_difference(
-    m: usize,
-    d: Remainder,
-    t: &[u8],
-    q: &[u8],
-    edges: &[u8],
+    left: JoinedEdges<'_>,
+    flags: MemberFlags<'_>,
     wa: &[i32],
     out: &mut [u8],
     list: &mut [i32],
-) -> Written
-    requires joined { Joined m d.edges edges.now × FlagsFit q.now d.flags.0 d.flagged × Tallies t.now }
-    requires flagged_len { length (kept_to q.now d.flags.0 wa.now d.flagged) ≡ count (entry_held m d.edges edges.now) }
-    ensures { weighted_outcome result out.new list.new ≡ writes_with [] [] (entry_held m d.edges edges.now) (kept_to q.now d.flags.0 wa.now d.flagged) out.old list.old }
+) -> Result<usize, Refusal>
+    requires { length (kept_to flags.queue.now flags.first.0 wa.now flags.count) ≡ count (entry_held left.width left.bits left.bytes.now) }
+    ensures { weighted_outcome result out.new list.new ≡ writes_with [] [] (entry_held left.entry.width left.entry.bits left.entry.bytes.now) (kept_to flags.entry.queue.now flags.entry.first.0 wa.now flags.entry.count) out.old list.old }
 {
-    let k = d.edges;
-    if k > Encoding::MAX_EDGES {
-        return Written::Refused(refusal::TOO_LARGE);
+    if left.bits > Encoding::MAX_EDGES {
+        return Err(Refusal::TooLarge);
     }
-    let held = bits::bytes_for(k);
-    let n = build::members_of(m, k, &edges[..held], t);
-    if either_short(m, k, n, out.len(), list.len()) {
-        return Written::Refused(refusal::SHORT_BUFFER);
+    let n = left.members();
+    if left.too_long(out.len()) || list.len() < n {
+        return Err(Refusal::ShortBuffer);
     }
-    write_kept(q, d.flags, d.flagged, wa, &mut list[..n]);
-    Written::Length(join::put_encoding(m, k, edges, t, out))
+    flags.write_kept(wa, &mut list[..n]);
+    Ok(left.put(out))
 }
 
 // The union of two opened encodings of one width: 16, then as above.
 fn unite(
-    e: Encoding,
-    f: Encoding,
-    a: &[u8],
+    pair: Pair<'_, '_>,
     wa: &[i32],
-    b: &[u8],
     wb: &[i32],
-    t: &[u8],
     q: &mut [u8],
     out: &mut [u8],
     list: &mut [i32],
-) -> Written
-    requires opens { Opens a.now e × Opens b.now f × (e.width ≡ f.width) }
-    requires queue_room { QueueRoom e.bits f.bits q.old × Tallies t.now }
-    ensures { weighted_outcome result out.new list.new ≡ union_weighted (entry_in a.now) wa.now (entry_in b.now) wb.now out.old list.old }
+) -> Result<usize, Refusal>
+    requires { QueueRoom pair.first.encoding.bits pair.second.encoding.bits q.old }
+    ensures { weighted_outcome result out.new list.new ≡ union_weighted (entry_in pair.entry.first.bytes.now) wa.now (entry_in pair.entry.second.bytes.now) wb.now out.old list.old }
 {
-    if wa.len() != e.count {
-        return Written::Refused(refusal::WRONG_LIST);
+    if wa.len() != pair.first.encoding.count {
+        return Err(Refusal::WrongList);
     }
-    if wb.len() != f.count {
-        return Written::Refused(refusal::WRONG_LIST);
+    if wb.len() != pair.second.encoding.count {
+        return Err(Refusal::WrongList);
     }
-    let from = e.edges;
-    let other = f.edges;
-    let u = join::merged(e.width, &a[from..], e.bits, &b[other..], f.bits, q);
-    write_union(e.width, u, t, q, wa, wb, out, list)
+    let first = join::edge_bytes(pair.first);
+    let second = join::edge_bytes(pair.second);
+    let u = join::merged(first, second, q);
+    write_union(first.width, u, q, wa, wb, out, list)
 }
 
 // The difference of two; only the first has a list.
 fn subtract(
-    e: Encoding,
-    f: Encoding,
-    a: &[u8],
+    pair: Pair<'_, '_>,
     wa: &[i32],
-    b: &[u8],
-    t: &[u8],
     q: &mut [u8],
     edges: &mut [u8],
     out: &mut [u8],
     list: &mut [i32],
-) -> Written
-    requires opens { Opens a.now e × Opens b.now f × (e.width ≡ f.width) }
-    requires queue_room { QueueRoom e.bits f.bits q.old × (e.bits < 8 * length edges.old) × Tallies t.now }
-    ensures { weighted_outcome result out.new list.new ≡ difference_weighted (entry_in a.now) wa.now (entry_in b.now) out.old list.old }
+) -> Result<usize, Refusal>
+    requires { QueueRoom pair.first.encoding.bits pair.second.encoding.bits q.old × (pair.first.encoding.bits < 8 * length edges.old) }
+    ensures { weighted_outcome result out.new list.new ≡ difference_weighted (entry_in pair.entry.first.bytes.now) wa.now (entry_in pair.entry.second.bytes.now) out.old list.old }
 {
-    if wa.len() != e.count {
-        return Written::Refused(refusal::WRONG_LIST);
+    if wa.len() != pair.first.encoding.count {
+        return Err(Refusal::WrongList);
     }
-    let from = e.edges;
-    let other = f.edges;
-    let d = join::subtracted(e.width, &a[from..], e.bits, &b[other..], f.bits, q, edges);
-    write_difference(e.width, d, t, q, edges, wa, out, list)
+    let first = join::edge_bytes(pair.first);
+    let second = join::edge_bytes(pair.second);
+    let d = join::subtracted(first, second, q, edges);
+    let left = JoinedEdges {
+        width: first.width,
+        bits: d.edges,
+        bytes: edges,
+    };
+    let flags = MemberFlags {
+        queue: q,
+        first: d.flags,
+        count: d.flagged,
+    };
+    write_difference(left, flags, wa, out, list)
 }
 
-// Joins with the counting table, a queue and room for the edges of a difference lent.
-fn join_with(
+// Joins in rooms of its own, of these sizes. It stays a function when compiled, one for each of the sizes, as that of crate join does.
+#[inline(never)]
+fn join_in<const QUEUE: usize, const EDGES: usize>(
     kind: Join,
     a: &[u8],
     wa: &[i32],
     b: &[u8],
     wb: &[i32],
-    t: &[u8],
-    q: &mut [u8],
-    edges: &mut [u8],
     out: &mut [u8],
     list: &mut [i32],
-) -> Written
-    requires { Rooms (length a.now) (length b.now) q.old edges.old × Tallies t.now }
+) -> Result<usize, Refusal>
+    requires { RoomFor (length a.now) (length b.now) QUEUE EDGES }
     ensures { weighted_outcome result out.new list.new ≡ weighted_call kind a.now wa.now b.now wb.now out.old list.old }
 {
-    let pair = join::open_both(a, b, t);
-    match pair {
-        Pair::Refused(k) => Written::Refused(k),
-        Pair::Opened(e, f) => match kind {
-            Join::Union => unite(e, f, a, wa, b, wb, t, q, out, list),
-            Join::Difference => subtract(e, f, a, wa, b, t, q, edges, out, list),
-        },
+    let pair = join::open_both(a, b)?;
+    let mut q = [0; QUEUE];
+    match kind {
+        Join::Union => unite(pair, wa, wb, &mut q, out, list),
+        Join::Difference => {
+            let mut edges = [0; EDGES];
+            subtract(pair, wa, &mut q, &mut edges, out, list)
+        }
     }
 }
 
-// In the rooms that a join has, by the lengths of both. Each of these four is called at two places, for the reason that crate join gives at its own.
-fn join_tiny(
+// Joins in the smallest rooms that serve the longer of the two.
+fn join_by_length(
     kind: Join,
     a: &[u8],
     wa: &[i32],
@@ -416,67 +244,19 @@ fn join_tiny(
     wb: &[i32],
     out: &mut [u8],
     list: &mut [i32],
-) -> Written
-    requires { (length a.now ≤ tiny) × (length b.now ≤ tiny) }
+) -> Result<usize, Refusal>
     ensures { weighted_outcome result out.new list.new ≡ weighted_call kind a.now wa.now b.now wb.now out.old list.old }
 {
-    let t = bits::tallies();
-    let mut q = join::tiny_queue();
-    let mut edges = join::tiny_edges();
-    join_with(kind, a, wa, b, wb, &t, &mut q, &mut edges, out, list)
-}
-
-fn join_small(
-    kind: Join,
-    a: &[u8],
-    wa: &[i32],
-    b: &[u8],
-    wb: &[i32],
-    out: &mut [u8],
-    list: &mut [i32],
-) -> Written
-    requires { (length a.now ≤ small) × (length b.now ≤ small) }
-    ensures { weighted_outcome result out.new list.new ≡ weighted_call kind a.now wa.now b.now wb.now out.old list.old }
-{
-    let t = bits::tallies();
-    let mut q = join::small_queue();
-    let mut edges = join::small_edges();
-    join_with(kind, a, wa, b, wb, &t, &mut q, &mut edges, out, list)
-}
-
-fn join_middle(
-    kind: Join,
-    a: &[u8],
-    wa: &[i32],
-    b: &[u8],
-    wb: &[i32],
-    out: &mut [u8],
-    list: &mut [i32],
-) -> Written
-    requires { (length a.now ≤ middle) × (length b.now ≤ middle) }
-    ensures { weighted_outcome result out.new list.new ≡ weighted_call kind a.now wa.now b.now wb.now out.old list.old }
-{
-    let t = bits::tallies();
-    let mut q = join::middle_queue();
-    let mut edges = join::middle_edges();
-    join_with(kind, a, wa, b, wb, &t, &mut q, &mut edges, out, list)
-}
-
-fn join_large(
-    kind: Join,
-    a: &[u8],
-    wa: &[i32],
-    b: &[u8],
-    wb: &[i32],
-    out: &mut [u8],
-    list: &mut [i32],
-) -> Written
-    ensures { weighted_outcome result out.new list.new ≡ weighted_call kind a.now wa.now b.now wb.now out.old list.old }
-{
-    let t = bits::tallies();
-    let mut q = join::large_queue();
-    let mut edges = join::large_edges();
-    join_with(kind, a, wa, b, wb, &t, &mut q, &mut edges, out, list)
+    let n = a.len().max(b.len());
+    if n <= join::TINY {
+        join_in::<{ join::TINY_QUEUE }, { join::TINY_EDGES }>(kind, a, wa, b, wb, out, list)
+    } else if n <= join::SMALL {
+        join_in::<{ join::SMALL_QUEUE }, { join::SMALL_EDGES }>(kind, a, wa, b, wb, out, list)
+    } else if n <= join::MIDDLE {
+        join_in::<{ join::MIDDLE_QUEUE }, { join::MIDDLE_EDGES }>(kind, a, wa, b, wb, out, list)
+    } else {
+        join_in::<{ join::LARGE_QUEUE }, { join::LARGE_EDGES }>(kind, a, wa, b, wb, out, list)
+    }
 }
 
 // The keys in either set, and a list of their weights: a key that both have weighs the sum.
@@ -487,20 +267,10 @@ pub fn union_weighted(
     wb: &[i32],
     out: &mut [u8],
     list: &mut [i32],
-) -> Written
+) -> Result<usize, Refusal>
     ensures { weighted_outcome result out.new list.new ≡ union_weighted_call a.now wa.now b.now wb.now out.old list.old }
 {
-    let n = join::longer(a.len(), b.len());
-    if n <= join::TINY {
-        return join_tiny(Join::Union, a, wa, b, wb, out, list);
-    }
-    if n <= join::SMALL {
-        return join_small(Join::Union, a, wa, b, wb, out, list);
-    }
-    if n <= join::MIDDLE {
-        return join_middle(Join::Union, a, wa, b, wb, out, list);
-    }
-    join_large(Join::Union, a, wa, b, wb, out, list)
+    join_by_length(Join::Union, a, wa, b, wb, out, list)
 }
 
 // The keys in the first set but not in the second, and what they weigh in the first.
@@ -510,18 +280,8 @@ pub fn difference_weighted(
     b: &[u8],
     out: &mut [u8],
     list: &mut [i32],
-) -> Written
+) -> Result<usize, Refusal>
     ensures { weighted_outcome result out.new list.new ≡ difference_weighted_call a.now wa.now b.now out.old list.old }
 {
-    let n = join::longer(a.len(), b.len());
-    if n <= join::TINY {
-        return join_tiny(Join::Difference, a, wa, b, &[], out, list);
-    }
-    if n <= join::SMALL {
-        return join_small(Join::Difference, a, wa, b, &[], out, list);
-    }
-    if n <= join::MIDDLE {
-        return join_middle(Join::Difference, a, wa, b, &[], out, list);
-    }
-    join_large(Join::Difference, a, wa, b, &[], out, list)
+    join_by_length(Join::Difference, a, wa, b, &[], out, list)
 }

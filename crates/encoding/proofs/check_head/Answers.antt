@@ -33,7 +33,7 @@ returns-then-width-gt-MAX_WIDTH c =
 
 pub check_field-requires-2 : goal.check_field-requires-2
 unfolding body_bytes
-check_field-requires-2 c = (omega (arith, field_fits 1 width_bytes c.args.l.now 0 (sym c.in_ok-check_field.ensures)), search rules, search rules, c.if-width-gt-MAX_WIDTH.false, search rules)
+check_field-requires-2 c = (omega (arith, field_fits 1 width_bytes c.args.l.now 0 (sym c.in_ok-check_field.ensures)), c.if-width-gt-MAX_WIDTH.false, search rules)
 
 pub returns-in_err-check_field-2 : goal.returns-in_err-check_field-2
 unfolding head_tests body_bytes
@@ -46,7 +46,7 @@ returns-in_err-check_field-2 c =
 
 pub check_field-requires-3 : goal.check_field-requires-3
 unfolding body_bytes
-check_field-requires-3 c = (omega (arith, field_fits 2 count_bytes c.args.l.now start2 (sym c.in_ok-check_field-2.ensures)), search rules, search rules, c.if-width-gt-MAX_WIDTH.false, search rules)
+check_field-requires-3 c = (omega (arith, field_fits 2 count_bytes c.args.l.now start2 (sym c.in_ok-check_field-2.ensures)), c.if-width-gt-MAX_WIDTH.false, search rules)
 
 pub returns-in_err-check_field-3 : goal.returns-in_err-check_field-3
 unfolding head_tests body_bytes

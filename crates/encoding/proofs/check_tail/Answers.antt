@@ -1,4 +1,4 @@
-use Rattle.std.proofs.Common.{rules, arith, ◌≡◌, ◌≤◌, ◌-◌, sym, length}
+use Rattle.std.proofs.Common.{arith, ◌≡◌, ◌≤◌, ◌-◌, sym, length}
 use Rattle.std.proofs.lemmas.Result.{err_from_is_err_and}
 use Rattle.loes.specs.Limits.{head_bytes}
 use Rattle.loes.specs.Read.{start4, start5, start6, tail_tests}
@@ -21,7 +21,7 @@ check_field-requires-2 c =
     let e = c.args.e in
     let at4 : e.edges - head_bytes ≡ start4 e.width = omega (arith, c.requires.0.edges) in
     let fits : start5 e.width e.bits ≤ length c.args.l.now = field_fits 4 _ _ _ (sym (rw at4 at c.in_ok-check_field.ensures)) in
-    (omega (arith, c.requires.0.blocks, fits), search rules, search rules, c.requires.1, c.requires.2)
+    (omega (arith, c.requires.0.blocks, fits), c.requires.1, c.requires.2)
 
 pub returns-in_err-check_field-2 : goal.returns-in_err-check_field-2
 unfolding tail_tests body_bytes
@@ -38,7 +38,7 @@ check_field-requires-3 c =
     let e = c.args.e in
     let at5 : e.blocks - head_bytes ≡ start5 e.width e.bits = omega (arith, c.requires.0.blocks) in
     let fits : start6 e.width e.bits ≤ length c.args.l.now = field_fits 5 _ _ _ (sym (rw at5 at c.in_ok-check_field-2.ensures)) in
-    (omega (arith, c.requires.0.sub_blocks, fits), search rules, search rules, c.requires.1, c.requires.2)
+    (omega (arith, c.requires.0.sub_blocks, fits), c.requires.1, c.requires.2)
 
 pub returns-in_err-check_field-3 : goal.returns-in_err-check_field-3
 unfolding tail_tests body_bytes

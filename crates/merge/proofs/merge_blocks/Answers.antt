@@ -30,8 +30,3 @@ pub loop-i-preserved : goal.loop-i-preserved
 loop-i-preserved c =
     let v = c.loop-i.invariant in
     record { merged = record_more c.requires v.start v.merged (omega arith) c.merge_record-at.ensures; start = omega (arith, v.start); end = omega arith }
-
-pub returns : goal.returns
-returns c =
-    let all : c.loop-i.i - c.args.from.0 ≡ c.args.start.tail.0 - c.args.from.0 = omega (arith, c.loop-i-test.false, c.loop-i.invariant.end) in
-    rw all at c.loop-i.invariant.merged

@@ -11,6 +11,6 @@ record_if-y-requires c = let f = c.record_at-f in
     λ e. omega (arith, c.requires.b_bound ((flag_odd c.args.q.now c.args.i.0 f.result f.ensures.0).1 ∙ e))
 
 pub returns : goal.returns
-returns c = step_ok c.args.a.now c.args.b.now c.args.q.now c.put_record.new.out c.push_children-end.new.q
-    c.args.i.0 c.args.at.a.0 c.args.at.b.0 c.args.at.tail.0 c.push_children-end.result.0 c.record_at-f.result c.record_if-x.result c.record_if-y.result c.either_record-z.result
-    c.requires.i_lt_tail.0 c.record_at-f.ensures.0 c.record_if-x.ensures.0 c.record_if-y.ensures.0 c.either_record-z.ensures.0 c.put_record.ensures c.push_children-end.ensures
+returns c = step_ok c.args.a.now c.args.b.now c.args.q.now c.put_record.new.out c.push_children-tail.new.q
+    c.args.i.0 c.args.at.a.0 c.args.at.b.0 c.args.at.tail.0 c.push_children-tail.result.0 c.record_at-f.result c.record_if-x.result c.record_if-y.result c.either_record-z.result
+    c.requires.i_lt_tail.0 c.record_at-f.ensures.0 c.record_if-x.ensures.0 c.record_if-y.ensures.0 c.either_record-z.ensures.0 c.put_record.ensures c.push_children-tail.ensures

@@ -1,13 +1,12 @@
+use Rattle.std.proofs.lemmas.Result.{err_from_is_err_and}
 use Rattle.loes.specs.Calls.{prefix_call}
-use Rattle.encoding.specs.Opened.{Opens}
-use Rattle.query.proofs.Calls.{call_refused, call_opened}
+use Rattle.query.proofs.Calls.{call_refused, call_open}
 use Rattle.prefix.proofs.prefix.Goals as goal
 
-pub returns-in-Refused : goal.returns-in-Refused
+pub returns-in_err-open : goal.returns-in_err-open
 unfolding prefix_call
-returns-in-Refused c = call_refused _ _ _ _ (rw c.in-Refused.is at c.check-checked.ensures)
+returns-in_err-open c = let p = err_from_is_err_and c.from_residual.result c.from_residual.ensures.1 in rw (p.1, p.2) (call_refused _ _ _ _ c.in_err-open.ensures.checked)
 
-pub returns-in-Opened : goal.returns-in-Opened
+pub returns : goal.returns
 unfolding prefix_call
-returns-in-Opened c = let o : Opens c.args.l.now c.in-Opened.e = rw c.in-Opened.is at c.check-checked.ensures in
-    call_opened _ _ _ _ _ o.reads c.prefix_in.ensures
+returns c = call_open c.in_ok-open.field-0 _ _ _ _ c.in_ok-open.ensures.checked c.prefix_in.ensures

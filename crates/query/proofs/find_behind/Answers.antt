@@ -19,9 +19,9 @@ slice_bounds-find_from-count c = omega (arith, behind_in _ _ c.args.o.opens _ _ 
 pub slice_bounds-find_from-start : goal.slice_bounds-find_from-start
 slice_bounds-find_from-start c = omega (arith, behind_in _ _ c.args.o.opens _ _ c.requires)
 
-pub overflow_add-before : goal.overflow_add-before
+pub overflow_add-first : goal.overflow_add-first
 unfolding edge_count
-overflow_add-before c = omega (arith, c.tally_part-before.ensures.1, c.requires, ones_le (edges_of (entry_in c.args.o.bytes.now)), c.args.o.opens.bits, (opens_room _ _ c.args.o.opens).few)
+overflow_add-first c = omega (arith, c.tally_part-before.ensures.1, c.requires, ones_le (edges_of (entry_in c.args.o.bytes.now)), c.args.o.opens.bits, (opens_room _ _ c.args.o.opens).few)
 
 pub find_from-requires : goal.find_from-requires
 find_from-requires c =

@@ -1,12 +1,9 @@
-use mathlib.Core.Path.{refl, ◌∙◌}
+use mathlib.Core.Path.{◌∙◌}
 use Prim.Native.Nat.{◌<◌}
 use native.Mathlib.Omega.{arith}
 use lib.ListN.{length}
 use Rattle.query.proofs.Select.{in_bytes, next_byte}
 use Rattle.query.proofs.find_in_bytes.Goals as goal
-
-pub loop-at-init : goal.loop-at-init
-loop-at-init c = refl
 
 pub bounds-edges-at : goal.bounds-edges-at
 bounds-edges-at c = in_bytes c.args.edges.now c.loop-at.at.byte c.loop-at.at.number (omega (arith, c.loop-at.invariant, c.requires.1))

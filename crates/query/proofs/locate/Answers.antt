@@ -1,4 +1,4 @@
-use mathlib.Core.Path.{refl, sym, ◌∙◌}
+use mathlib.Core.Path.{sym, ◌∙◌}
 use native.Mathlib.Omega.{arith}
 use Rattle.encoding.proofs.Opened.{opens_valid}
 use Rattle.query.proofs.Levels.{way_located}
@@ -13,9 +13,6 @@ descend-at-requires c = (omega arith, key_room c.args.key.now _ _ c.bad_key.ensu
 
 pub overflow_sub-result : goal.overflow_sub-result
 overflow_sub-result c = (way_located _ (opens_valid _ _ c.args.o.opens) _ _ _ _ _ c.args.o.opens.width c.args.o.opens.bits c.descend-at.ensures).0
-
-pub returns-then-bad_key : goal.returns-then-bad_key
-returns-then-bad_key c = (rw (← c.args.o.opens.width) (sym c.bad_key.ensures ∙ c.if-bad_key.true), refl)
 
 pub returns : goal.returns
 returns c = (rw (← c.args.o.opens.width) (sym c.bad_key.ensures ∙ c.if-bad_key.false), (way_located _ (opens_valid _ _ c.args.o.opens) _ _ _ _ _ c.args.o.opens.width c.args.o.opens.bits c.descend-at.ensures).1)

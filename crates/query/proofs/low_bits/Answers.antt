@@ -1,5 +1,3 @@
-use mathlib.Core.Path.{◌≡◌}
-use lib.ListN.{length}
 use native.Mathlib.Omega.{arith}
 use Rattle.query.proofs.Writing.{path_none, path_more, path_small}
 use Rattle.query.proofs.low_bits.Goals as goal
@@ -15,6 +13,3 @@ overflow_add-bits c = omega (arith, c.loop-offset.invariant, path_small c.args.o
 
 pub loop-offset-preserved : goal.loop-offset-preserved
 loop-offset-preserved c = path_more _ _ _ c.loop-offset.invariant
-
-pub returns : goal.returns
-returns c = let z : c.loop-offset.offset-index ≡ length c.args.offsets.now = omega arith in rw z at c.loop-offset.invariant

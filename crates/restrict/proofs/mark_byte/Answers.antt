@@ -22,7 +22,7 @@ returns c =
     let high : n ≡ child_count (records_of 2 (c.args.x / 16)) = c.count_edges-n.ensures.0 ∙ count_low (c.args.x / 16) (omega arith) in
     let z : d + 0 ≡ d = omega arith in
     let ea : records_of 2 c.mark_half-a.result ≡ masked_at (λ m. kept_by w (record_at q m)) d (records_of 2 (c.args.x / 16)) =
-    rw z at (rw c.wide.ensures.0 at (half_ok q w (d + 0) c.wide.result c.mark_half-a.result c.four_in.result (c.four_in.ensures.0 ∙ window_at q d 0 c.window-v.result c.window-v.ensures (omega arith)) c.mark_half-a.ensures.0)) in
+    rw z at (half_ok q w (d + 0) (c.args.x / 16) c.mark_half-a.result c.four_in.result (c.four_in.ensures.0 ∙ window_at q d 0 c.window-v.result c.window-v.ensures (omega arith)) c.mark_half-a.ensures.0) in
     let eb : records_of 2 c.mark_half-b.result ≡ masked_at (λ m. kept_by w (record_at q m)) (d + n) (records_of 2 (c.args.x % 16)) =
-    rw c.wide-2.ensures.0 at (half_ok q w (d + n) c.wide-2.result c.mark_half-b.result c.four_in-2.result (c.four_in-2.ensures.0 ∙ window_at q d n c.window-v.result c.window-v.ensures (omega (arith, high, count_half (c.args.x / 16)))) c.mark_half-b.ensures.0) in
+    half_ok q w (d + n) (c.args.x % 16) c.mark_half-b.result c.four_in-2.result (c.four_in-2.ensures.0 ∙ window_at q d n c.window-v.result c.window-v.ensures (omega (arith, high, count_half (c.args.x / 16)))) c.mark_half-b.ensures.0 in
     byte_ok (λ m. kept_by w (record_at q m)) c.args.x d c.mark_half-a.result c.mark_half-b.result n high ea eb c.mark_half-b.ensures.1

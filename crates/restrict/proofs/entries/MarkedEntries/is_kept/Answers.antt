@@ -13,4 +13,4 @@ returns-then-j-self c = let x = c.record_at in
 pub returns-else-j-self : goal.returns-else-j-self
 unfolding kept_at
 returns-else-j-self c = let x = c.record_at-else-j-self in
-    rw (le-ltb c.args.j.0 c.args.self.records.0 c.if-j-self.false, c.flag.ensures) (sym (flag_code x.result _ c.args.self.queue.now c.args.j.0 x.ensures.1 x.ensures.0))
+    rw (le-ltb c.args.j.0 c.args.self.records.0 c.if-j-self.false) (sym (flag_code x.result _ c.args.self.queue.now c.args.j.0 x.ensures.1 x.ensures.0))

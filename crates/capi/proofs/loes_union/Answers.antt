@@ -1,0 +1,5 @@
+use Rattle.capi.proofs.Codes.{onward, written_coded}
+use Rattle.capi.proofs.loes_union.Goals as goal
+
+pub returns : goal.returns
+returns c = onward c.union.ensures (written_coded _ _ c.from.ensures)
