@@ -19,10 +19,9 @@ use Rattle.std.specs.Prelude.{Result, Ok, Err}
 use Rattle.loes.specs.declared.refusal.Refusal.{Refusal}
 use Rattle.cursor.specs.declared.Cursor.{Cursor}
 use Rattle.cursor.specs.Steps.{cursor_of, step_answer, advanced_of}
-use Rattle.printing.specs.declared.page.Page.{Page}
 use Rattle.printing.specs.Text.{member_line, key_bytes_at, lines_from, lines_of, numbers_line, first_line, max_line, Puts}
 use Rattle.printing.specs.Standing.{StandsAt}
-use Rattle.printing.specs.Pages.{Stands, PutsNext, Fills, Full, Printed, over, page, PagesAreLines}
+use Rattle.printing.specs.Pages.{Come, Stands, PutsNext, Fills, Full, Printed, over, page, PagesAreLines}
 use Rattle.printing.proofs.Putting.{puts_none, puts_length, puts_then, puts_front}
 
 pub key_most : (e : Entry) → Valid e → key_bytes e.width ≤ 32
@@ -30,7 +29,7 @@ unfolding key_bytes started
 key_most e v = omega (arith, v.narrow)
 
 -- ---- A step from where a page stands, with room for a key: it is not refused
-module _ (e : Entry) (v : Valid e) (p : Page) (s : Stands e p) (lt : p.index.0 < count e) (out : Bytes) (room : length out ≡ 32)
+module _ (e : Entry) (v : Valid e) (p : Come) (s : Stands e p) (lt : p.index.0 < count e) (out : Bytes) (room : length out ≡ 32)
     (r : Result ℕ Refusal) (after : Cursor) (out' : Bytes) (told : advanced_of r out' after ≡ advance e (cursor_of p.cursor) out) where
   abbrev i : ℕ
   i = p.index.0
@@ -66,11 +65,11 @@ unfolding padded next_index
 first_stands e c q = record { right = ap (is_cursor_of e) q ∙ (right_none e).0; next = ap (next_index e) q; within = omega arith }
 
 -- ---- A page so far
-pub fills_none : (e : Entry) (p : Page) (d : Bytes) → Stands e p → p.length ≤ length d → Fills e p d p d
+pub fills_none : (e : Entry) (p : Come) (d : Bytes) → Stands e p → p.length ≤ length d → Fills e p d p d
 unfolding lines_from
 fills_none e p d s h = record { lines = 0; index = omega arith; puts = puts_none p.length p.length d h refl; stands = s }
 
-pub fills_next : (e : Entry) (p q r : Page) (d d1 d2 : Bytes) → Fills e p d q d1 → PutsNext e q d1 r d2 → Fills e p d r d2
+pub fills_next : (e : Entry) (p q r : Come) (d d1 d2 : Bytes) → Fills e p d q d1 → PutsNext e q d1 r d2 → Fills e p d r d2
 unfolding lines_from
 fills_next e p q r d d1 d2 f n =
     record {
@@ -81,7 +80,7 @@ fills_next e p q r d d1 d2 f n =
     }
 
 -- with a member left and room for a line, there is a line on it
-pub fills_some : (e : Entry) (p r : Page) (d d1 : Bytes) → Fills e p d r d1 → Full e r d1 → p.index.0 < count e → p.length + max_line ≤ length d → p.index.0 < r.index.0
+pub fills_some : (e : Entry) (p r : Come) (d d1 : Bytes) → Fills e p d r d1 → Full e r d1 → p.index.0 < count e → p.length + max_line ≤ length d → p.index.0 < r.index.0
 fills_some e p r d d1 f full lt room = go f.lines f.index f.puts
   where
     go : (n : ℕ) → r.index.0 ≡ p.index.0 + n → Puts p.length (lines_from e p.index.0 n) d r.length d1 → p.index.0 < r.index.0
@@ -89,7 +88,7 @@ fills_some e p r d d1 f full lt room = go f.lines f.index f.puts
     go (suc n) i q = omega arith
 
 -- what stands in it from the front
-pub fills_front : (e : Entry) (p r : Page) (d d1 : Bytes) → Fills e p d r d1 → p.length ≡ 0 → take r.length d1 ≡ lines_from e p.index.0 (r.index.0 - p.index.0)
+pub fills_front : (e : Entry) (p r : Come) (d d1 : Bytes) → Fills e p d r d1 → p.length ≡ 0 → take r.length d1 ≡ lines_from e p.index.0 (r.index.0 - p.index.0)
 fills_front e p r d d1 f z =
     let n : f.lines ≡ r.index.0 - p.index.0 = omega (arith, f.index) in
     puts_front (rw z at f.puts) ∙ ap (lines_from e p.index.0) n
@@ -105,7 +104,7 @@ lines_add e i n (suc m) =
     rw (z, y) (ap (λ x. x ++ l) (lines_add e i n m) ∙ append_assoc (lines_from e i n) (lines_from e (i + n) m) l)
 
 -- from a page on, up to the last member
-rest : (e : Entry) (p : Page) (texts : List Bytes) → Printed e p texts → (n : ℕ) × (p.index.0 + n ≡ count e) × (flatten texts ≡ lines_from e p.index.0 n)
+rest : (e : Entry) (p : Come) (texts : List Bytes) → Printed e p texts → (n : ℕ) × (p.index.0 + n ≡ count e) × (flatten texts ≡ lines_from e p.index.0 n)
 unfolding flatten lines_from
 rest e p texts (over _ h) = (0, omega arith, refl)
 rest e p texts (page _ r q d d' ts z f h more) =

@@ -22,7 +22,7 @@ pub struct Page<'a> {
 impl<'a> Page<'a> {
     ghost use Rattle.std.specs.Prelude.{◌+◌, ◌<◌, ◌≤◌, length};
     ghost use Rattle.printing.specs.Text.{max_line};
-    ghost use Rattle.printing.specs.Pages.{PutsNext, Fills, Full};
+    ghost use Rattle.printing.specs.Pages.{come, PutsNext, Fills, Full};
 
     // Before the first member, with no text.
     pub fn first(opened: Opened<'a>) -> Page<'a>
@@ -39,7 +39,7 @@ impl<'a> Page<'a> {
     // One more line: a step, which is not refused, and the line of the member it went to.
     fn put_next(&mut self, text: &mut [u8])
         requires { (self.old.index.0 < self.old.opened.encoding.count) × (self.old.length + max_line ≤ length text.old) }
-        ensures { (self.new.opened ≡ self.old.opened) × PutsNext (entry_in self.old.opened.bytes.now) self.old text.old self.new text.new }
+        ensures { (self.new.opened ≡ self.old.opened) × PutsNext (entry_in self.old.opened.bytes.now) (come self.old) text.old (come self.new) text.new }
     {
         let mut key = [0u8; Encoding::MAX_KEY_BYTES];
         let written = cursor::advance(self.opened, &mut self.cursor, &mut key).unwrap();
@@ -50,7 +50,7 @@ impl<'a> Page<'a> {
     // More lines, while members are left and there is room for any line: no `for`, since either may end first.
     pub fn fill(&mut self, text: &mut [u8])
         requires { self.old.length ≤ length text.old }
-        ensures { (self.new.opened ≡ self.old.opened) × Fills (entry_in self.old.opened.bytes.now) self.old text.old self.new text.new × Full (entry_in self.old.opened.bytes.now) self.new text.new }
+        ensures { (self.new.opened ≡ self.old.opened) × Fills (entry_in self.old.opened.bytes.now) (come self.old) text.old (come self.new) text.new × Full (entry_in self.old.opened.bytes.now) (come self.new) text.new }
     {
         while self.index.0 < self.opened.encoding.count && LINE <= text.len() - self.length {
             self.put_next(text);

@@ -10,6 +10,7 @@ use Rattle.printing.proofs.Paging.{key_most, next_wrote, next_key, next_stands}
 use Rattle.printing.proofs.page.Page.put_next.Goals as goal
 use Rattle.printing.proofs.page.Page.put_next.Goals.{After-advance}
 use Rattle.std.specs.Prelude.{Ok, ◌+◌}
+use Rattle.printing.specs.Pages.{come}
 use Rattle.printing.specs.Standing.{StandsAt}
 use Rattle.loes.specs.Entry.{Entry}
 
@@ -26,14 +27,14 @@ module _ (c : After-advance) where
 
   -- it returns its key's bytes
   wrote : c.advance.result ≡ Ok (key_bytes e.width)
-  wrote = next_wrote e valid c.args.self.now c.args.self.now.stands there _ refl _ _ _ c.advance.ensures
+  wrote = next_wrote e valid (come c.args.self.now) c.args.self.now.stands there _ refl _ _ _ c.advance.ensures
 
   -- it wrote that key, and stands at its member
   key : take (key_bytes e.width) c.advance.new.out ≡ key_bytes_at e c.args.self.now.index.0
-  key = next_key e valid c.args.self.now c.args.self.now.stands there _ refl _ _ _ c.advance.ensures
+  key = next_key e valid (come c.args.self.now) c.args.self.now.stands there _ refl _ _ _ c.advance.ensures
 
   stands : StandsAt e c.advance.new.cursor (c.args.self.now.index.0 + 1)
-  stands = next_stands e valid c.args.self.now c.args.self.now.stands there _ refl _ _ _ c.advance.ensures
+  stands = next_stands e valid (come c.args.self.now) c.args.self.now.stands there _ refl _ _ _ c.advance.ensures
 
   -- so many bytes, and no more than a key can have
   told : (n : ℕ) → c.advance.result ≡ Ok n → n ≡ key_bytes e.width
