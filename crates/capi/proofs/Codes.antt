@@ -1,11 +1,11 @@
 -- From the calls' answers to their codes.
-use mathlib.Core.Path.{◌≡◌, refl, sym, ap, ◌∙◌}
+use mathlib.Core.Path.{◌≡◌, refl, ap, ◌∙◌}
 use Prim.Native.Nat.{ℕ}
 use mathlib.Core.Bool.{Bool, true, false}
-use mathlib.Core.List.{List, [], ◌∷◌}
+use mathlib.Core.List.{[], ◌∷◌}
 use Rattle.std.specs.Prelude.{Option, Some, None, Result, Ok, Err}
 use Rattle.loes.specs.Bytes.{Bytes}
-use Rattle.loes.specs.Model.{Answer as ModelAnswer, OutcomeOf, Outcome}
+use Rattle.loes.specs.Model.{OutcomeOf, Outcome}
 use Rattle.loes.specs.declared.refusal.Refusal.{Refusal}
 use Rattle.bits.specs.declared.MemberIndex.{MemberIndex}
 use Rattle.encoding.specs.Answers.{ranked_outcome}

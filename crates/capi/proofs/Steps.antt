@@ -1,12 +1,12 @@
 -- A step with the cursor in its parts.
 use mathlib.Core.Path.{◌≡◌, refl, subst, ap, ◌∙◌}
-use Prim.Native.Nat.{ℕ, ◌≤◌, ◌<◌}
+use Prim.Native.Nat.{ℕ, ◌<◌}
 use mathlib.Core.Bool.{true, false}
 use mathlib.Core.List.{List}
 use native.Mathlib.Omega.{arith}
 use native.Mathlib.Decide.{dec_le}
 use borrow.Author.Tests.{ne_eqb}
-use Rattle.std.specs.Prelude.{Option, Some, None, Result, Ok, Err, IsSome}
+use Rattle.std.specs.Prelude.{Option, Some, None, Ok, Err, IsSome}
 use Rattle.loes.specs.Bytes.{Bytes}
 use Rattle.loes.specs.Entry.{Entry}
 use Rattle.loes.specs.Refusals.{bad_cursor}
@@ -19,7 +19,6 @@ use Rattle.encoding.specs.declared.opening.Opened.{Opened}
 use Rattle.cursor.specs.declared.State.{State}
 use Rattle.cursor.specs.declared.State.TheVariants as state
 use Rattle.cursor.specs.Steps.{state_of}
-use Rattle.capi.specs.declared.answers.Answer.{Answer}
 use Rattle.capi.specs.Coded.{refuses}
 use Rattle.capi.specs.Steps.{StepGiven, step_gives, state_code, state_in, state_read, cursor_in, is_state, step_coded, done_after, step_after, step_call}
 

@@ -1,13 +1,10 @@
 use native.Mathlib.Omega.{arith}
-use Rattle.pack.proofs.Levels.{starts_few, gap_apart, none_apart, none_marked}
+use Rattle.pack.proofs.Levels.{starts_few, gap_apart, none_marked}
 use Rattle.pack.proofs.Places.{few_keys}
 use Rattle.pack.proofs.mark_all.Goals as goal
 
 pub mark_keys-requires-clause-edges_value : goal.mark_keys-requires-clause-edges_value
 mark_keys-requires-clause-edges_value c = none_marked c.args.batch c.args.cursors.now c.requires.keys c.args.edges.now c.requires.clear
-
-pub mark_keys-requires-clause-markable : goal.mark_keys-requires-clause-markable
-mark_keys-requires-clause-markable c = (c.requires.keys, none_apart c.args.batch c.args.cursors.now c.requires.keys)
 
 pub apart_from-top-requires : goal.apart_from-top-requires
 apart_from-top-requires c =

@@ -9,7 +9,6 @@ use lib.ListN.{length, get_or}
 use lib.Seq.{get_or-set_same, get_or-set_other}
 use Rattle.loes.specs.Bytes.{bit, started}
 use Rattle.loes.specs.Entry.{key_bytes}
-use Rattle.loes.proofs.Tree.{bit_le}
 use Rattle.pack.proofs.SetBits.{bits_more, bits_past, bits_all, above_is, byte_bit}
 use Rattle.pack.specs.Marking.{set_bit, offset_of, KeyFits, AboveFits}
 use Rattle.std.proofs.Common.{List}
@@ -28,12 +27,6 @@ here : (m new e next : ℕ) (key : Bytes) (cursors : List ℕ) (edges : Bytes) �
 here m new e next key cursors edges k h l q =
     let newer : bit (leb new e) ≡ 1 = ap bit (le-leb new e h) in (omega (arith, newer, k.fit e l), omega (arith, newer))
 
-pub mark_above-requires : goal.mark_above-requires
-mark_above-requires c = let a = c.args in (up a.m a.new a.key.now a.cursors.now a.edges.now c.requires c.if-m-new.false, c.requires.small)
-
-pub returns-then-m-new-clause-moved : goal.returns-then-m-new-clause-moved
-returns-then-m-new-clause-moved c = record { long = refl; each = λ e l. rw (lt-leb c.args.new e (omega (arith, c.if-m-new.true))) (omega arith) }
-
 pub returns-then-m-new-clause-set : goal.returns-then-m-new-clause-set
 returns-then-m-new-clause-set c =
     let a = c.args in bits_past (offset_of a.cursors.now a.new a.key.now) (a.new - 1) a.m a.edges.now (omega (arith, c.if-m-new.true))
@@ -47,33 +40,9 @@ loop-e-init c =
       set = bits_past (offset_of a.cursors.now a.new a.key.now) a.new a.new _ (omega arith);
     }
 
-pub overflow_add-cursors : goal.overflow_add-cursors
-overflow_add-cursors c =
-    let a = c.args in
-    let h = here a.m a.new c.loop-e.e (get_or c.loop-e.cursors c.loop-e.e 0) a.key.now a.cursors.now a.edges.now c.requires (omega arith) (omega arith) (c.loop-e.invariant.same c.loop-e.e (omega arith)) in
-    omega (arith, c.requires.small)
-
-pub overflow_mul-o : goal.overflow_mul-o
-overflow_mul-o c =
-    let a = c.args in
-    let h = here a.m a.new c.loop-e.e (get_or c.loop-e.cursors c.loop-e.e 0) a.key.now a.cursors.now a.edges.now c.requires (omega arith) (omega arith) (c.loop-e.invariant.same c.loop-e.e (omega arith)) in
-    omega (arith, c.requires.small)
-
 pub bit_at-requires : goal.bit_at-requires
 unfolding key_bytes started
 bit_at-requires c = omega (arith, c.requires.far)
-
-pub overflow_add-o : goal.overflow_add-o
-overflow_add-o c =
-    let a = c.args in
-    let h = here a.m a.new c.loop-e.e (get_or c.loop-e.cursors c.loop-e.e 0) a.key.now a.cursors.now a.edges.now c.requires (omega arith) (omega arith) (c.loop-e.invariant.same c.loop-e.e (omega arith)) in
-    omega (arith, c.requires.small, byte_bit c.bit_at.result, bit_le c.bit_at.result)
-
-pub set_bit-requires : goal.set_bit-requires
-set_bit-requires c =
-    let a = c.args in
-    let h = here a.m a.new c.loop-e.e (get_or c.loop-e.cursors c.loop-e.e 0) a.key.now a.cursors.now a.edges.now c.requires (omega arith) (omega arith) (c.loop-e.invariant.same c.loop-e.e (omega arith)) in
-    omega (arith, c.requires.small, byte_bit c.bit_at.result, bit_le c.bit_at.result)
 
 pub loop-e-preserved : goal.loop-e-preserved
 unfolding offset_of
@@ -92,9 +61,6 @@ loop-e-preserved c =
       same = λ x q. get_or-set_other l e x (next + 1) 0 (λ z. absurd (omega (arith, z))) ∙ c.loop-e.invariant.same x (omega arith);
       set = bits_more o a.new e _ c.loop-e.edges c.set_bit.new.b (omega arith) c.loop-e.invariant.set (c.set_bit.ensures ∙ ap (set_bit c.loop-e.edges) offset);
     }
-
-pub returns-clause-moved : goal.returns-clause-moved
-returns-clause-moved c = record { long = omega arith; each = λ e l. c.loop-e.invariant.moved e (omega arith) }
 
 pub returns-clause-set : goal.returns-clause-set
 returns-clause-set c =

@@ -1,4 +1,3 @@
-use mathlib.Core.Path.{refl}
 use Rattle.split.specs.Splitting.{split_outcome}
 use Rattle.capi.specs.Coded.{three_coded}
 use Rattle.capi.proofs.answers.LengthsFromResultThreeRefusal.from.Goals as goal

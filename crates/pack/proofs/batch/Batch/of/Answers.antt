@@ -1,5 +1,5 @@
-use mathlib.Core.Path.{◌≡◌, refl, ap, ◌∙◌}
-use Prim.Native.Nat.{◌/◌, ◌%◌}
+use mathlib.Core.Path.{◌≡◌, ap, ◌∙◌}
+use Prim.Native.Nat.{◌%◌}
 use native.Mathlib.Omega.{arith}
 use lib.ListN.{length}
 use Rattle.loes.specs.Bytes.{started}
@@ -25,7 +25,3 @@ invariant_of-result c =
         whole = omega (arith, div-add-mod (length l) t.result, even);
       };
     }
-
-pub returns : goal.returns
-unfolding key_bytes
-returns c = (refl, ap (λ k. length c.args.bytes.now / k) c.bytes_for-size.ensures.0, refl)
