@@ -47,8 +47,6 @@ beside: target/staticlib/libcapi.a
 	$(CC) -O2 -Iinclude -o target/beside/beside rust/benches/beside.c -ldl
 	target/beside/beside $${LOES_REPS:-9} target/beside/before.so target/beside/now.so
 
-# what each inner function asks of its callers; no call is among them
+# what each inner function asks of its callers, also by the types that it takes; no call is among them
 requires:
-	@awk 'FNR == 1 { split(FILENAME, path, "/"); name = "" } \
-	    /(^| )fn [a-z]/ { match($$0, /fn [a-z_0-9]+/); name = /pub / ? path[2] "::" substr($$0, RSTART + 3, RLENGTH - 3) : "" } \
-	    /^ *requires / && name { sub(/^ */, ""); print name ": " $$0 }' crates/*/src/*.rt
+	@awk -f tools/requires.awk crates/*/src/*.rt crates/*/src/*.rt | uniq

@@ -32,7 +32,7 @@
  *     output or to be changed shares no byte with anything else lent to the same call. Two encodings
  *     may be the same bytes, and two lists the same entries.
  *   - What a call works with is on the stack: allow it 704 KiB (measured: a split some 664,000
- *     bytes, every other join some 335,000 at most, every other call less than 12 KiB).
+ *     bytes, every other join some 336,000 at most, every other call less than 12 KiB).
  *
  * Link with target/staticlib/libcapi.a, made by `make target/staticlib/libcapi.a`.
  */

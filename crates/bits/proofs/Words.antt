@@ -33,7 +33,7 @@ word_lt l (suc n) s =
     let q : get_or l n 0 * 2 ^ (8 * n) ≤ 255 * 2 ^ (8 * n) = mul-le-mul_right (2 ^ (8 * n)) (omega (arith, s n)) in
     omega (arith, p, q, word_lt l n s)
 
--- one byte more, as the code puts it on
+-- one byte more
 or_more : (l : Bytes) (n : ℕ) → n < 8 → Small l → bit_or (word_in l n) (get_or l n 0 * 2 ^ (8 * n) % 2 ^ 64) ≡ word_in l (suc n)
 unfolding word_in
 or_more l n h s =

@@ -13,7 +13,7 @@ ghost use Rattle.loes.specs.Read.{level_bytes, edge_bytes, block_bytes, sub_bloc
 ghost use Rattle.encoding.specs.Fields.{tag_of};
 ghost use Rattle.build.specs.Writing.{HoldsOnly, standing, Shaped, shape, indexed, written_outcome};
 
-mod seen;
+pub mod seen;
 
 use bits::EdgeOffset;
 use encoding::Encoding;

@@ -18,7 +18,7 @@ pub struct Seen<'a> {
 
 impl<'a> Seen<'a> {
     // None yet.
-    pub fn none(edges: &'a [u8]) -> Seen<'a>
+    pub(crate) fn none(edges: &'a [u8]) -> Seen<'a>
         requires { length edges.now ≤ max_edges / 8 }
         ensures { (result.edges.now ≡ edges.now) × (result.bytes ≡ 0) }
     {
@@ -47,7 +47,7 @@ impl<'a> Seen<'a> {
     }
 
     // Counts on, to the first `upto` bytes.
-    pub fn count_to(self, upto: usize) -> Seen<'a>
+    pub(crate) fn count_to(self, upto: usize) -> Seen<'a>
         requires { (self.bytes ≤ upto) × (upto ≤ length self.edges.now) }
         ensures { (result.edges.now ≡ self.entry.edges.now) × (result.bytes ≡ upto) }
     {
@@ -60,7 +60,7 @@ impl<'a> Seen<'a> {
     }
 
     // The set bits before an offset in the byte behind them.
-    pub fn ones_at(self, o: EdgeOffset) -> usize
+    pub(crate) fn ones_at(self, o: EdgeOffset) -> usize
         requires { (self.bytes ≡ o.0 / 8) × (o.0 ≤ 8 * length self.edges.now) }
         ensures { result ≡ set_bits (bits_in self.entry.edges.now o.0) }
     {

@@ -222,6 +222,8 @@ const TO_AFTER: Walked = Walked {
 };
 
 // From a member's path: the turn is found first, and nothing moves before the buffer is known to fit.
+// It stands in the loop of a walk when compiled: called there, it would have what is opened copied to be lent for each key, and a key take a third longer.
+#[inline(always)]
 fn step_at(o: Opened<'_>, path: &mut [usize], out: &mut [u8]) -> Walked
     requires { spec.is_cursor_of (entry_in o.bytes.now) (cursor_with spec.at path.old) ≡ true }
     ensures { walked_of result path.new out.new ≡ spec.advance (entry_in o.entry.bytes.now) (cursor_with spec.at path.old) out.old }
@@ -265,6 +267,8 @@ fn step_before(o: Opened<'_>, path: &mut [usize], out: &mut [u8]) -> Walked
 }
 
 // From a right cursor, as a step that was not refused 15 leaves it: only 14 is tested.
+// It stands in its callers' place when compiled, for the same reason.
+#[inline(always)]
 pub fn step_right(o: Opened<'_>, state: State, path: &mut [usize], out: &mut [u8]) -> Walked
     requires { spec.is_cursor_of (entry_in o.bytes.now) (cursor_with (state_of state) path.old) ≡ true }
     ensures { walked_of result path.new out.new ≡ spec.advance (entry_in o.entry.bytes.now) (cursor_with (state_of state) path.old) out.old }

@@ -162,13 +162,13 @@ pub opened_within : (o : Opened) (a : Bytes) (x : ℕ) → o.bytes.now ≡ a →
 opened_within o a x h e = rw (← h, e) (let i = opens_short o.bytes.now o.encoding o.opens in let j = (opens_room o.bytes.now o.encoding o.opens).few in omega arith)
 
 -- the rooms, cleared, serve what two encodings of these lengths have
-pub rooms_serve : (queue edges : ℕ) (p : Pair) (a b : Bytes) (x y : ℕ) → p.first.bytes.now ≡ a → p.second.bytes.now ≡ b → x ≡ p.first.encoding.bits → y ≡ p.second.encoding.bits
-    → RoomFor (length a) (length b) queue edges → QueueRoom x y (replicate queue 0) × (x < 8 * length {A = ℕ} (replicate edges 0))
-rooms_serve queue edges p a b x y ha hb hx hy r =
+pub rooms_serve : (n queue edges : ℕ) (p : Pair) (a b : Bytes) (x y : ℕ) → p.first.bytes.now ≡ a → p.second.bytes.now ≡ b → x ≡ p.first.encoding.bits → y ≡ p.second.encoding.bits
+    → RoomFor n (length a) (length b) queue edges → QueueRoom x y (replicate queue 0) × (x < 8 * length {A = ℕ} (replicate edges 0))
+rooms_serve n queue edges p a b x y ha hb hx hy r =
     let i = opened_within p.first a x ha hx in
     let j = opened_within p.second b y hb hy in
     let long : (n : ℕ) → length {A = ℕ} (replicate n 0) ≡ n = λ n. length-replicate n 0 in
-    (record { queue = omega (arith, i, j, long queue, r.flags); small = omega (arith, long queue, r.few_flags) }, omega (arith, i, long edges, r.first))
+    (record { queue = omega (arith, i, j, long queue, r.flags, r.first, r.second); small = omega (arith, long queue, r.flags, r.few) }, omega (arith, i, long edges, r.rest, r.first))
 
 -- ---- Edges that hold an entry
 module _ {m b : ℕ} {l : Bytes} (h : Holds m b l) where

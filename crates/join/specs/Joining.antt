@@ -1,5 +1,5 @@
 -- Union and difference as one call, and what is known on its way.
-use Rattle.std.specs.Prelude.{◌≡◌, ℕ, min, ◌+◌, ◌*◌, ◌/◌, ◌<◌, ◌≤◌, [], ◌∷◌, length, take, Result, Ok, Err}
+use Rattle.std.specs.Prelude.{◌≡◌, ℕ, Bool, true, ◌||◌, eqb, min, ◌+◌, ◌*◌, ◌/◌, ◌<◌, ◌≤◌, [], ◌∷◌, length, take, Result, Ok, Err}
 use mathlib.Core.Option.{Option, some}
 use Rattle.loes.specs.Limits.{max_width, max_edges}
 use Rattle.loes.specs.Bytes.{Bytes, started, pack_bits, bits_in}
@@ -44,9 +44,21 @@ pub record Joined (m k : ℕ) (l : Bytes) : Type 0 where
   pub same : edges_of (entry_held m k l) ≡ bits_in l k
   pub whole : take (started 8 k) l ≡ pack_bits (bits_in l k)
 
--- the room of any two, by the most edges
+-- the sizes that a room may be for: tiny encodings, small ones, those of middle size, and any, by the most edges
+abbrev pub tiny : ℕ
+tiny = 512
+
+abbrev pub small : ℕ
+small = 2048
+
+abbrev pub middle : ℕ
+middle = 16384
+
 abbrev pub large : ℕ
 large = max_edges / 8
+
+unfoldable pub is_size : ℕ → Bool
+is_size n = eqb n tiny || eqb n small || eqb n middle || eqb n large
 
 -- the bytes of the records that a run put at the end may write, and one that the root's flag begins
 abbrev pub spare : ℕ
@@ -64,9 +76,11 @@ edges_for n = n + spare
 abbrev pub edges_within : ℕ → ℕ
 edges_within n = min (8 * n) max_edges
 
--- a queue and room for the edges of a difference, of so many bytes, for whatever two encodings of x and y bytes have
-pub record RoomFor (x y queue edges : ℕ) : Type 0 where
-  pub flags : edges_within x + edges_within y + 1 + overwrite ≤ 4 * queue
-  pub first : edges_within x < 8 * edges
-  pub few_flags : queue ≤ queue_for large
-  pub few_edges : edges ≤ edges_for large
+-- a queue and room for the edges of a difference, of so many bytes, by the one rule of their size n, for whatever two encodings of x and y bytes have
+pub record RoomFor (n x y queue edges : ℕ) : Type 0 where
+  pub sized : is_size n ≡ true
+  pub few : n ≤ large
+  pub first : edges_within x ≤ 8 * n
+  pub second : edges_within y ≤ 8 * n
+  pub flags : queue ≡ queue_for n
+  pub rest : edges ≡ edges_for n

@@ -23,7 +23,7 @@ use joined::JoinedEdges;
 use loes::Refusal;
 use merge::Sizes;
 use pair::Pair;
-use records::EdgeBytes;
+use records::{EdgeBytes, EdgedTable};
 use restrict::Remainder;
 
 // Which of the two.
@@ -90,7 +90,8 @@ pub fn subtracted(a: EdgeBytes<'_>, b: EdgeBytes<'_>, q: &mut [u8], edges: &mut 
     }
     let mut room = TableRoom::new();
     let mut entries = [0; join_tables::EDGED_ENTRIES];
-    let edged = join_tables::fill_edged(&mut entries);
+    join_tables::fill_edged(&mut entries);
+    let edged = EdgedTable { entries: &entries };
     restrict::subtract(a, b, Some(room.fill()), Some(edged), q, edges)
 }
 
@@ -162,15 +163,15 @@ pub const LARGE_QUEUE: usize = QUEUE_BYTES * LARGE + SPARE;
 
 pub const LARGE_EDGES: usize = LARGE + SPARE;
 
-// Joins in rooms of its own, of these sizes. It stays a function when compiled, one for each of the sizes: a small join does not touch the stack of a large one.
+// Joins in rooms of its own, those for encodings of at most N bytes. It stays a function when compiled, one for each of the sizes: a small join does not touch the stack of a large one.
 #[inline(never)]
-fn join_in<const QUEUE: usize, const EDGES: usize>(
+fn join_in<const N: usize, const QUEUE: usize, const EDGES: usize>(
     kind: Join,
     a: &[u8],
     b: &[u8],
     out: &mut [u8],
 ) -> Result<usize, Refusal>
-    requires { RoomFor (length a.now) (length b.now) QUEUE EDGES }
+    requires { RoomFor N (length a.now) (length b.now) QUEUE EDGES }
     ensures { written_outcome result out.new ≡ join_call (join_of kind) a.now b.now out.old }
 {
     let pair = open_both(a, b)?;
@@ -187,18 +188,19 @@ fn join_in<const QUEUE: usize, const EDGES: usize>(
 }
 
 // Joins in the smallest rooms that serve the longer of the two.
+#[tactic(auto, unfolding(crate::specs::Joining::is_size))]
 fn join_by_length(kind: Join, a: &[u8], b: &[u8], out: &mut [u8]) -> Result<usize, Refusal>
     ensures { written_outcome result out.new ≡ join_call (join_of kind) a.now b.now out.old }
 {
     let n = a.len().max(b.len());
     if n <= TINY {
-        join_in::<TINY_QUEUE, TINY_EDGES>(kind, a, b, out)
+        join_in::<TINY, TINY_QUEUE, TINY_EDGES>(kind, a, b, out)
     } else if n <= SMALL {
-        join_in::<SMALL_QUEUE, SMALL_EDGES>(kind, a, b, out)
+        join_in::<SMALL, SMALL_QUEUE, SMALL_EDGES>(kind, a, b, out)
     } else if n <= MIDDLE {
-        join_in::<MIDDLE_QUEUE, MIDDLE_EDGES>(kind, a, b, out)
+        join_in::<MIDDLE, MIDDLE_QUEUE, MIDDLE_EDGES>(kind, a, b, out)
     } else {
-        join_in::<LARGE_QUEUE, LARGE_EDGES>(kind, a, b, out)
+        join_in::<LARGE, LARGE_QUEUE, LARGE_EDGES>(kind, a, b, out)
     }
 }
 

@@ -7,8 +7,6 @@ ghost use Rattle.join_tables.specs.Entries.{FilledFrom, spread_in, spread_code, 
 
 pub mod room;
 
-use records::{EdgedTable, Tables};
-
 // How many entries each table has.
 pub const SPREAD_ENTRIES: usize = 4096;
 
@@ -141,26 +139,23 @@ fn fill_runs(t: &mut [u16; RUN_ENTRIES])
 }
 
 // ---- These three: a merge needs them
-pub fn fill<'a>(
-    spreads: &'a mut [u8; SPREAD_ENTRIES],
-    parts: &'a mut [u32; PART_ENTRIES],
-    runs: &'a mut [u16; RUN_ENTRIES],
-) -> Tables<'a> {
+pub fn fill(
+    spreads: &mut [u8; SPREAD_ENTRIES],
+    parts: &mut [u32; PART_ENTRIES],
+    runs: &mut [u16; RUN_ENTRIES],
+)
+    ensures { Spreads spreads.new × Parted parts.new × Runs runs.new }
+{
     fill_spread(spreads);
     fill_parts(parts);
     fill_runs(runs);
-    Tables {
-        spreads,
-        parts,
-        runs,
-    }
 }
 
 // ---- Edged: only what compacts needs it, so it is filled apart
 
 // Entry x: the run of the records of x that have an edge, four a turn, from that of one record less: the run itself, or with one more record behind.
 #[tactic(auto, using(crate::proofs::EdgedTable::edged_fits))]
-fn fill_edges(t: &mut [u16; EDGED_ENTRIES])
+pub fn fill_edged(t: &mut [u16; EDGED_ENTRIES])
     ensures { Edged t.new }
 {
     t[0] = 0;
@@ -173,10 +168,4 @@ fn fill_edges(t: &mut [u16; EDGED_ENTRIES])
         t[at + 2] = d + 2;
         t[at + 3] = d + 3;
     }
-}
-
-// This one: what compacts needs it.
-pub fn fill_edged(entries: &mut [u16; EDGED_ENTRIES]) -> EdgedTable<'_> {
-    fill_edges(entries);
-    EdgedTable { entries }
 }

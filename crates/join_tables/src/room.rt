@@ -22,6 +22,11 @@ impl TableRoom {
 
     // The tables, filled.
     pub fn fill(&mut self) -> Tables<'_> {
-        crate::fill(&mut self.spreads, &mut self.parts, &mut self.runs)
+        crate::fill(&mut self.spreads, &mut self.parts, &mut self.runs);
+        Tables {
+            spreads: &self.spreads,
+            parts: &self.parts,
+            runs: &self.runs,
+        }
     }
 }

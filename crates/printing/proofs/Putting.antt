@@ -45,7 +45,7 @@ module _ {at m : ℕ} {s d d1 : Bytes} (p : Puts at s d m d1) where
   unfolding with_text
   is = p.text ∙ ap (λ n. head ++ drop n d) (sym p.ends)
 
-  -- the buffer keeps its length, and what was put ends within it
+  -- the buffer keeps its length
   pub puts_length : length d1 ≡ length d
   puts_length = let r : m ≤ length d = omega (arith, p.room, p.ends) in ap length is ∙ length-append head (drop m d) ∙ omega (arith, long, length-drop m d)
 

@@ -163,23 +163,23 @@ fn print_numbers(rt: &impl Print, o: Opened<'_>) -> io::Result<()> {
     write_numbers(rt, o.bytes, &text[..n])
 }
 
-// Prints a page of lines, and leaves one that goes on from it.
-fn print_page(rt: &impl Print, page: &mut Page<'_>) -> io::Result<()>
-    requires { (page.old.length ≡ 0) × (page.old.index.0 < page.old.opened.encoding.count) }
-    ensures { IfOk result (λ _. (page.new.opened ≡ page.old.opened) × (page.new.length ≡ 0) × (page.old.index.0 < page.new.index.0)) }
+// Prints a page of lines, and returns one that goes on from it; where it can't, it leaves nothing behind.
+fn print_page<'a>(rt: &impl Print, from: Page<'a>) -> io::Result<Page<'a>>
+    requires { (from.length ≡ 0) × (from.index.0 < from.opened.encoding.count) }
+    ensures { IfOk result (λ next. (next.opened ≡ from.entry.opened) × (next.length ≡ 0) × (from.entry.index.0 < next.index.0)) }
 {
     let mut text = [0u8; PAGE];
-    let from = page.index;
+    let mut page = from;
     page.fill(&mut text);
     write_members(
         rt,
         page.opened.bytes,
-        from,
+        from.index,
         page.index,
         &text[..page.length],
     )?;
     page.length = 0;
-    Ok(())
+    Ok(page)
 }
 
 // Prints the lines of the members, page by page, and returns the index that it came to. No `for`: how many go to a page is the page's to say.
@@ -188,7 +188,7 @@ fn print_members(rt: &impl Print, o: Opened<'_>) -> io::Result<MemberIndex>
 {
     let mut page = Page::first(o);
     while page.index.0 < o.encoding.count {
-        print_page(rt, &mut page)?;
+        page = print_page(rt, page)?;
     }
     Ok(page.index)
 }

@@ -10,7 +10,7 @@ use encoding::Encoding;
 use encoding::opening::Opened;
 
 // How far a page has come in an encoding: the cursor, the index of the member that it goes to next, and the bytes of text.
-#[derive(Drop)]
+#[derive(Clone, Copy)]
 pub struct Page<'a> {
     pub opened: Opened<'a>,
     pub cursor: Cursor,

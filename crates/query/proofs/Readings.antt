@@ -1,5 +1,5 @@
 -- The three readings of a key's position among the members, with refusal 8 before them.
-use mathlib.Core.Path.{◌≡◌, refl, sym, ◌∙◌}
+use mathlib.Core.Path.{◌≡◌, refl, sym, ap, ◌∙◌}
 use Prim.Native.Nat.{ℕ, ◌*◌, ◌≤◌, ◌<◌}
 use mathlib.Core.Bool.{Bool, true, false, ◌||◌, not, cond}
 use mathlib.Core.List.{List, [], ◌∷◌}
@@ -51,31 +51,38 @@ module _ (e : Entry) (x : Bytes) where
   bound_refused k s = refused_key k s _
 
   module _ (p : Position) (s : Sought e x (Ok p)) where
-    pub contains_told : membership_outcome (Ok p.found) ≡ (contains e x).outcome
+    pub contains_is : saying (cond p.found is_present is_absent) ≡ (contains e x).outcome
     unfolding contains key_in
-    contains_told = membership_is p.found ∙ rw (← (answered s.0 (cond (e.set (bits_in x e.width)) is_present is_absent)), s.1.inside)
+    contains_is = rw (← (answered s.0 (cond (e.set (bits_in x e.width)) is_present is_absent)), s.1.inside)
+
+    pub contains_told : membership_outcome (Ok p.found) ≡ (contains e x).outcome
+    contains_told = membership_is p.found ∙ contains_is
       where
         membership_is : (b : Bool) → membership_outcome (Ok b) ≡ saying (cond b is_present is_absent)
         membership_is true = refl
         membership_is false = refl
 
-    pub index_told : lookup_outcome (Ok (then_some p.found p.below)) ≡ (index_of e x).outcome
+    pub index_is_lem : saying (cond p.found (index_is p.below.0) is_absent) ≡ (index_of e x).outcome
     unfolding index_of key_in
-    index_told = lookup_is p.found ∙ rw (← (answered s.0 (cond (e.set (bits_in x e.width)) (index_is (smaller (bits_in x e.width) (keys_of e))) is_absent)), s.1.inside, s.1.below)
+    index_is_lem = rw (← (answered s.0 (cond (e.set (bits_in x e.width)) (index_is (smaller (bits_in x e.width) (keys_of e))) is_absent)), s.1.inside, s.1.below)
+
+    pub index_told : lookup_outcome (Ok (then_some p.found p.below)) ≡ (index_of e x).outcome
+    index_told = lookup_is p.found ∙ index_is_lem
       where
         lookup_is : (b : Bool) → lookup_outcome (Ok (then_some b p.below)) ≡ saying (cond b (index_is p.below.0) is_absent)
         lookup_is true = refl
         lookup_is false = refl
 
-    pub bound_told : (n : ℕ) → n ≡ count e → bound_outcome (Ok (then_some (not (eqb p.below.0 n)) p.below)) ≡ (lower_bound e x).outcome
+    pub bound_is : saying (cond (eqb p.below.0 (count e)) is_none (index_is p.below.0)) ≡ (lower_bound e x).outcome
     unfolding lower_bound key_in
-    bound_told n q =
-        bound_is (eqb p.below.0 n)
-        ∙ rw (← (answered s.0 (cond (eqb (smaller (bits_in x e.width) (keys_of e)) (count e)) is_none (index_is (smaller (bits_in x e.width) (keys_of e))))), s.1.below, q)
+    bound_is = rw (← (answered s.0 (cond (eqb (smaller (bits_in x e.width) (keys_of e)) (count e)) is_none (index_is (smaller (bits_in x e.width) (keys_of e))))), s.1.below)
+
+    pub bound_told : (n : ℕ) → n ≡ count e → bound_outcome (Ok (then_some (not (eqb p.below.0 n)) p.below)) ≡ (lower_bound e x).outcome
+    bound_told n q = bound_by (eqb p.below.0 n) ∙ ap (λ k. saying (cond (eqb p.below.0 k) is_none (index_is p.below.0))) q ∙ bound_is
       where
-        bound_is : (b : Bool) → bound_outcome (Ok (then_some (not b) p.below)) ≡ saying (cond b is_none (index_is p.below.0))
-        bound_is true = refl
-        bound_is false = refl
+        bound_by : (b : Bool) → bound_outcome (Ok (then_some (not b) p.below)) ≡ saying (cond b is_none (index_is p.below.0))
+        bound_by true = refl
+        bound_by false = refl
 
 -- ---- The key at an index: 9, then 14, then the key
 module _ (e : Entry) (i : ℕ) (out : Bytes) where

@@ -323,6 +323,8 @@ fn low_bits(offsets: &[usize]) -> usize
 }
 
 // Writes the key of a path to the front of a buffer: eight bits a byte, then what is left, with unused bits 0.
+// It stays a function when compiled, so that a step is short enough to stand in the loop of a walk.
+#[inline(never)]
 pub fn write_key(offsets: &[usize], m: usize, out: &mut [u8]) -> usize
     requires { (m ≤ max_width) × (m ≤ length offsets.now) × (key_bytes m ≤ length out.old) }
     ensures { (result ≡ key_bytes m) × (out.new ≡ front (pack_bits (key_of_path offsets.now m)) out.old) }

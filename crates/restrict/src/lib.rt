@@ -25,7 +25,7 @@ use records::{EdgeBytes, EdgedTable, Kept, Run, Tables};
 // ---- A byte of edges
 
 // How many edges a byte has.
-fn count_edges(tables: Tables<'_>, x: u8) -> usize
+pub fn count_edges(tables: Tables<'_>, x: u8) -> usize
     ensures { (result ≡ child_count (records_of 4 x)) × (result ≤ 8) }
 {
     let h = tables.parts_at(x);
@@ -64,7 +64,7 @@ fn test_at(d: RecordIndex, r: RecordIndex, members: Members) -> Kept
 }
 
 // Whether a byte of k edges can be marked whole: the first i records end with its four, the k entries before c stand behind them, all of them records, or members, and there are the bytes that are read.
-fn has_mark(r: RecordIndex, i: RecordIndex, k: usize, c: RecordIndex, l: usize) -> bool
+pub fn has_mark(r: RecordIndex, i: RecordIndex, k: usize, c: RecordIndex, l: usize) -> bool
     ensures { result ≡ true → MarkRoom r.0 i.0 k c.0 l }
 {
     i.0 % 4 == 0

@@ -129,11 +129,11 @@ split_parts p a b x y z d e s t u ha hb hd he hs ht hu =
     ∙ sym (rw (ra, rb))
 
 -- ---- The rooms, cleared, serve what two encodings of these lengths have
-pub rooms_serve : (queue marks : ℕ) (p : Pair) (a b : Bytes) (x y : ℕ) → p.first.bytes.now ≡ a → p.second.bytes.now ≡ b → x ≡ p.first.encoding.bits → y ≡ p.second.encoding.bits
-    → SplitRoom (length a) (length b) queue marks → DivideRoom x y (replicate queue 0) (replicate marks 0) (replicate marks 0) (replicate marks 0)
-rooms_serve queue marks p a b x y ha hb hx hy r =
+pub rooms_serve : (n queue marks : ℕ) (p : Pair) (a b : Bytes) (x y : ℕ) → p.first.bytes.now ≡ a → p.second.bytes.now ≡ b → x ≡ p.first.encoding.bits → y ≡ p.second.encoding.bits
+    → SplitRoom n (length a) (length b) queue marks → DivideRoom x y (replicate queue 0) (replicate marks 0) (replicate marks 0) (replicate marks 0)
+rooms_serve n queue marks p a b x y ha hb hx hy r =
     let i = opened_within p.first a x ha hx in
     let j = opened_within p.second b y hb hy in
     let long : (n : ℕ) → length {A = ℕ} (replicate n 0) ≡ n = λ n. length-replicate n 0 in
-    let fits : MarksFit ((x + y) / 2) (replicate marks 0) = record { room = omega (arith, i, j, long marks, r.records); small = omega (arith, long marks, r.few_marks) } in
-    record { queue = record { queue = omega (arith, i, j, long queue, r.flags); small = omega (arith, long queue, r.few_flags) }; both = fits; only_first = fits; only_second = fits }
+    let fits : MarksFit ((x + y) / 2) (replicate marks 0) = record { room = omega (arith, i, j, long marks, r.records, r.first, r.second); small = omega (arith, long marks, r.records, r.few) } in
+    record { queue = record { queue = omega (arith, i, j, long queue, r.flags, r.first, r.second); small = omega (arith, long queue, r.flags, r.few) }; both = fits; only_first = fits; only_second = fits }

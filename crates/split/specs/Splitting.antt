@@ -1,23 +1,24 @@
 -- Two sets split in three: the rooms, and what is answered.
-use Rattle.std.specs.Prelude.{ℕ, ◌+◌, ◌*◌, ◌/◌, ◌≤◌, [], ◌∷◌, Result, Ok, Err}
+use Rattle.std.specs.Prelude.{◌≡◌, ℕ, true, ◌+◌, ◌*◌, ◌≤◌, [], ◌∷◌, Result, Ok, Err}
 use Rattle.loes.specs.Bytes.{Bytes}
 use Rattle.loes.specs.Numbers.{number_of}
 use Rattle.loes.specs.declared.refusal.Refusal.{Refusal}
 use Rattle.divide.specs.declared.Three.{Three}
 use Rattle.loes.specs.Model.{Outcome, refused, wrote, writing_all}
-use Rattle.records.specs.Numbers.{overread, overwrite}
-use Rattle.join.specs.Joining.{spare, edges_within, queue_for, large}
+use Rattle.join.specs.Joining.{spare, is_size, edges_within, queue_for, large}
 
 -- the bytes of a union's marks, for encodings of at most n bytes each
 abbrev pub marks_for : ℕ → ℕ
 marks_for n = 2 * n + spare
 
--- a queue and room for the marks of three parts, of so many bytes each, for whatever two encodings of x and y bytes have
-pub record SplitRoom (x y queue marks : ℕ) : Type 0 where
-  pub flags : edges_within x + edges_within y + 1 + overwrite ≤ 4 * queue
-  pub records : (edges_within x + edges_within y) / 2 + overread ≤ 4 * marks
-  pub few_flags : queue ≤ queue_for large
-  pub few_marks : marks ≤ marks_for large
+-- a queue and room for the marks of three parts, of so many bytes each, by the rule of their size n, for whatever two encodings of x and y bytes have
+pub record SplitRoom (n x y queue marks : ℕ) : Type 0 where
+  pub sized : is_size n ≡ true
+  pub few : n ≤ large
+  pub first : edges_within x ≤ 8 * n
+  pub second : edges_within y ≤ 8 * n
+  pub flags : queue ≡ queue_for n
+  pub records : marks ≡ marks_for n
 
 -- what the answer says, with the three buffers at exit
 unfoldable pub split_outcome : Result Three Refusal → Bytes → Bytes → Bytes → Outcome

@@ -15,7 +15,7 @@ use join::joined::JoinedEdges;
 use join_tables::room::TableRoom;
 use loes::Refusal;
 use parts::Parts;
-use records::EdgeBytes;
+use records::{EdgeBytes, EdgedTable};
 
 // ---- The edges of the three
 // Tables pay from this many edge bits of both on, and so many more for each level: sooner than in a difference, as one filling serves three.
@@ -41,7 +41,8 @@ fn divided(
     }
     let mut room = TableRoom::new();
     let mut entries = [0; join_tables::EDGED_ENTRIES];
-    let edged = join_tables::fill_edged(&mut entries);
+    join_tables::fill_edged(&mut entries);
+    let edged = EdgedTable { entries: &entries };
     divide::divide(a, b, Some(room.fill()), Some(edged), q, x, y, z)
 }
 
@@ -90,16 +91,16 @@ const MIDDLE_MARKS: usize = 2 * join::MIDDLE + join::SPARE;
 
 const LARGE_MARKS: usize = 2 * join::LARGE + join::SPARE;
 
-// Splits in rooms of its own, of these sizes. It stays a function when compiled, one for each of the sizes: a small split does not touch the stack of a large one.
+// Splits in rooms of its own, those for encodings of at most N bytes. It stays a function when compiled, one for each of the sizes: a small split does not touch the stack of a large one.
 #[inline(never)]
-fn split_in<const QUEUE: usize, const MARKS: usize>(
+fn split_in<const N: usize, const QUEUE: usize, const MARKS: usize>(
     a: &[u8],
     b: &[u8],
     both: &mut [u8],
     only_first: &mut [u8],
     only_second: &mut [u8],
 ) -> Result<Three, Refusal>
-    requires { SplitRoom (length a.now) (length b.now) QUEUE MARKS }
+    requires { SplitRoom N (length a.now) (length b.now) QUEUE MARKS }
     ensures { split_outcome result both.new only_first.new only_second.new ≡ split_call a.now b.now both.old only_first.old only_second.old }
 {
     let pair = join::open_both(a, b)?;
@@ -115,6 +116,7 @@ fn split_in<const QUEUE: usize, const MARKS: usize>(
 
 // ---- The call
 // The keys in both sets, in the first only and in the second only, each set's encoding written to the front of its own buffer (document 02, request 3). The longer of the two encodings tells the room.
+#[tactic(auto, unfolding(join::specs::Joining::is_size))]
 pub fn split(
     a: &[u8],
     b: &[u8],
@@ -126,12 +128,36 @@ pub fn split(
 {
     let n = a.len().max(b.len());
     if n <= join::TINY {
-        split_in::<{ join::TINY_QUEUE }, TINY_MARKS>(a, b, both, only_first, only_second)
+        split_in::<{ join::TINY }, { join::TINY_QUEUE }, TINY_MARKS>(
+            a,
+            b,
+            both,
+            only_first,
+            only_second,
+        )
     } else if n <= join::SMALL {
-        split_in::<{ join::SMALL_QUEUE }, SMALL_MARKS>(a, b, both, only_first, only_second)
+        split_in::<{ join::SMALL }, { join::SMALL_QUEUE }, SMALL_MARKS>(
+            a,
+            b,
+            both,
+            only_first,
+            only_second,
+        )
     } else if n <= join::MIDDLE {
-        split_in::<{ join::MIDDLE_QUEUE }, MIDDLE_MARKS>(a, b, both, only_first, only_second)
+        split_in::<{ join::MIDDLE }, { join::MIDDLE_QUEUE }, MIDDLE_MARKS>(
+            a,
+            b,
+            both,
+            only_first,
+            only_second,
+        )
     } else {
-        split_in::<{ join::LARGE_QUEUE }, LARGE_MARKS>(a, b, both, only_first, only_second)
+        split_in::<{ join::LARGE }, { join::LARGE_QUEUE }, LARGE_MARKS>(
+            a,
+            b,
+            both,
+            only_first,
+            only_second,
+        )
     }
 }

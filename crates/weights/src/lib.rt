@@ -210,9 +210,9 @@ fn subtract(
     write_difference(left, flags, wa, out, list)
 }
 
-// Joins in rooms of its own, of these sizes. It stays a function when compiled, one for each of the sizes, as that of crate join does.
+// Joins in rooms of its own, those for encodings of at most N bytes. It stays a function when compiled, one for each of the sizes, as that of crate join does.
 #[inline(never)]
-fn join_in<const QUEUE: usize, const EDGES: usize>(
+fn join_in<const N: usize, const QUEUE: usize, const EDGES: usize>(
     kind: Join,
     a: &[u8],
     wa: &[i32],
@@ -221,7 +221,7 @@ fn join_in<const QUEUE: usize, const EDGES: usize>(
     out: &mut [u8],
     list: &mut [i32],
 ) -> Result<usize, Refusal>
-    requires { RoomFor (length a.now) (length b.now) QUEUE EDGES }
+    requires { RoomFor N (length a.now) (length b.now) QUEUE EDGES }
     ensures { weighted_outcome result out.new list.new ≡ weighted_call kind a.now wa.now b.now wb.now out.old list.old }
 {
     let pair = join::open_both(a, b)?;
@@ -236,6 +236,7 @@ fn join_in<const QUEUE: usize, const EDGES: usize>(
 }
 
 // Joins in the smallest rooms that serve the longer of the two.
+#[tactic(auto, unfolding(join::specs::Joining::is_size))]
 fn join_by_length(
     kind: Join,
     a: &[u8],
@@ -249,13 +250,21 @@ fn join_by_length(
 {
     let n = a.len().max(b.len());
     if n <= join::TINY {
-        join_in::<{ join::TINY_QUEUE }, { join::TINY_EDGES }>(kind, a, wa, b, wb, out, list)
+        join_in::<{ join::TINY }, { join::TINY_QUEUE }, { join::TINY_EDGES }>(
+            kind, a, wa, b, wb, out, list,
+        )
     } else if n <= join::SMALL {
-        join_in::<{ join::SMALL_QUEUE }, { join::SMALL_EDGES }>(kind, a, wa, b, wb, out, list)
+        join_in::<{ join::SMALL }, { join::SMALL_QUEUE }, { join::SMALL_EDGES }>(
+            kind, a, wa, b, wb, out, list,
+        )
     } else if n <= join::MIDDLE {
-        join_in::<{ join::MIDDLE_QUEUE }, { join::MIDDLE_EDGES }>(kind, a, wa, b, wb, out, list)
+        join_in::<{ join::MIDDLE }, { join::MIDDLE_QUEUE }, { join::MIDDLE_EDGES }>(
+            kind, a, wa, b, wb, out, list,
+        )
     } else {
-        join_in::<{ join::LARGE_QUEUE }, { join::LARGE_EDGES }>(kind, a, wa, b, wb, out, list)
+        join_in::<{ join::LARGE }, { join::LARGE_QUEUE }, { join::LARGE_EDGES }>(
+            kind, a, wa, b, wb, out, list,
+        )
     }
 }
 

@@ -11,7 +11,9 @@ use Rattle.restrict.proofs.Masking.{count_half, count_low, half_ok, byte_ok}
 use Rattle.restrict.proofs.mark_byte.Goals as goal
 
 pub four_in-requires-2 : goal.four_in-requires-2
-four_in-requires-2 c = omega (arith, c.count_edges-n.ensures.0, count_low (c.args.x / 16) (omega arith), count_half (c.args.x / 16))
+four_in-requires-2 c =
+    omega
+    (arith, c.count_edges-n.ensures.0, count_low (c.args.x / 16) (omega arith), count_half (c.args.x / 16), count_low (c.args.x % 16) (omega arith), count_half (c.args.x % 16))
 
 pub returns : goal.returns
 returns c =

@@ -12,7 +12,7 @@ returns-in_err-pair g c =
 
 pub parts_of-parts-requires-clause-divide_room : goal.parts_of-parts-requires-clause-divide_room
 parts_of-parts-requires-clause-divide_room g c =
-    rooms_serve g.row.QUEUE g.row.MARKS c.in_ok-pair.pair _ _ _ _ c.in_ok-pair.ensures.0 c.in_ok-pair.ensures.1 c.edge_bytes-first.ensures.place.1 c.edge_bytes-second.ensures.place.1 c.requires
+    rooms_serve g.row.N g.row.QUEUE g.row.MARKS c.in_ok-pair.pair _ _ _ _ c.in_ok-pair.ensures.0 c.in_ok-pair.ensures.1 c.edge_bytes-first.ensures.place.1 c.edge_bytes-second.ensures.place.1 c.requires
 
 pub returns : goal.returns
 returns g c =

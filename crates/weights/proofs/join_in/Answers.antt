@@ -11,10 +11,10 @@ returns-in_err-pair g c =
     rw (p.1, p.2) (sym (call_refused c.args.kind c.args.a.now c.args.b.now _ c.in_err-pair.ensures c.args.wa.now c.args.wb.now c.args.out.now c.args.list.now))
 
 pub unite-requires : goal.unite-requires
-unite-requires g c = (rooms_serve g.row.QUEUE g.row.EDGES c.in_ok-pair.pair _ _ _ _ c.in_ok-pair.ensures.0 c.in_ok-pair.ensures.1 refl refl c.requires).0
+unite-requires g c = (rooms_serve g.row.N g.row.QUEUE g.row.EDGES c.in_ok-pair.pair _ _ _ _ c.in_ok-pair.ensures.0 c.in_ok-pair.ensures.1 refl refl c.requires).0
 
 pub subtract-requires : goal.subtract-requires
-subtract-requires g c = rooms_serve g.row.QUEUE g.row.EDGES c.in_ok-pair.pair _ _ _ _ c.in_ok-pair.ensures.0 c.in_ok-pair.ensures.1 refl refl c.requires
+subtract-requires g c = rooms_serve g.row.N g.row.QUEUE g.row.EDGES c.in_ok-pair.pair _ _ _ _ c.in_ok-pair.ensures.0 c.in_ok-pair.ensures.1 refl refl c.requires
 
 pub returns-in-Union : goal.returns-in-Union
 returns-in-Union g c =

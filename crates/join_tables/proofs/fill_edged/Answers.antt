@@ -2,7 +2,7 @@ use mathlib.Core.Path.{refl}
 use lib.ListN.{length-set}
 use native.Mathlib.Omega.{arith}
 use Rattle.join_tables.proofs.EdgedTable.{edged_start, edged_turn, edged_ruled}
-use Rattle.join_tables.proofs.fill_edges.Goals as goal
+use Rattle.join_tables.proofs.fill_edged.Goals as goal
 
 pub loop-i-init : goal.loop-i-init
 loop-i-init c = record { size = simp length-set (omega arith); filled = edged_start c.args.t.now (omega arith) }
