@@ -168,7 +168,7 @@ rooms_serve n queue edges p a b x y ha hb hx hy r =
     let i = opened_within p.first a x ha hx in
     let j = opened_within p.second b y hb hy in
     let long : (n : ℕ) → length {A = ℕ} (replicate n 0) ≡ n = λ n. length-replicate n 0 in
-    (record { queue = omega (arith, i, j, long queue, r.flags, r.first, r.second); small = omega (arith, long queue, r.flags, r.few) }, omega (arith, i, long edges, r.rest, r.first))
+    (record { queue = omega (arith, i, j, long queue, r.flags, r.serves.first, r.serves.second); small = omega (arith, long queue, r.flags, r.serves.few) }, omega (arith, i, long edges, r.rest, r.serves.first))
 
 -- ---- Edges that hold an entry
 module _ {m b : ℕ} {l : Bytes} (h : Holds m b l) where

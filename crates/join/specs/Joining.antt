@@ -76,11 +76,15 @@ edges_for n = n + spare
 abbrev pub edges_within : ℕ → ℕ
 edges_within n = min (8 * n) max_edges
 
--- a queue and room for the edges of a difference, of so many bytes, by the one rule of their size n, for whatever two encodings of x and y bytes have
-pub record RoomFor (n x y queue edges : ℕ) : Type 0 where
+-- rooms of size n serve whatever two encodings of x and y bytes have
+pub record Serves (n x y : ℕ) : Type 0 where
   pub sized : is_size n ≡ true
   pub few : n ≤ large
   pub first : edges_within x ≤ 8 * n
   pub second : edges_within y ≤ 8 * n
+
+-- a queue and room for the edges of a difference, of so many bytes, by the one rule of their size n
+pub record RoomFor (n x y queue edges : ℕ) : Type 0 where
+  pub serves : Serves n x y
   pub flags : queue ≡ queue_for n
   pub rest : edges ≡ edges_for n

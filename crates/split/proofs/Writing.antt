@@ -135,5 +135,5 @@ rooms_serve n queue marks p a b x y ha hb hx hy r =
     let i = opened_within p.first a x ha hx in
     let j = opened_within p.second b y hb hy in
     let long : (n : ℕ) → length {A = ℕ} (replicate n 0) ≡ n = λ n. length-replicate n 0 in
-    let fits : MarksFit ((x + y) / 2) (replicate marks 0) = record { room = omega (arith, i, j, long marks, r.records, r.first, r.second); small = omega (arith, long marks, r.records, r.few) } in
-    record { queue = record { queue = omega (arith, i, j, long queue, r.flags, r.first, r.second); small = omega (arith, long queue, r.flags, r.few) }; both = fits; only_first = fits; only_second = fits }
+    let fits : MarksFit ((x + y) / 2) (replicate marks 0) = record { room = omega (arith, i, j, long marks, r.records, r.serves.first, r.serves.second); small = omega (arith, long marks, r.records, r.serves.few) } in
+    record { queue = record { queue = omega (arith, i, j, long queue, r.flags, r.serves.first, r.serves.second); small = omega (arith, long queue, r.flags, r.serves.few) }; both = fits; only_first = fits; only_second = fits }

@@ -1,22 +1,19 @@
 -- Two sets split in three: the rooms, and what is answered.
-use Rattle.std.specs.Prelude.{◌≡◌, ℕ, true, ◌+◌, ◌*◌, ◌≤◌, [], ◌∷◌, Result, Ok, Err}
+use Rattle.std.specs.Prelude.{◌≡◌, ℕ, ◌+◌, ◌*◌, [], ◌∷◌, Result, Ok, Err}
 use Rattle.loes.specs.Bytes.{Bytes}
 use Rattle.loes.specs.Numbers.{number_of}
 use Rattle.loes.specs.declared.refusal.Refusal.{Refusal}
 use Rattle.divide.specs.declared.Three.{Three}
 use Rattle.loes.specs.Model.{Outcome, refused, wrote, writing_all}
-use Rattle.join.specs.Joining.{spare, is_size, edges_within, queue_for, large}
+use Rattle.join.specs.Joining.{spare, Serves, queue_for}
 
 -- the bytes of a union's marks, for encodings of at most n bytes each
 abbrev pub marks_for : ℕ → ℕ
 marks_for n = 2 * n + spare
 
--- a queue and room for the marks of three parts, of so many bytes each, by the rule of their size n, for whatever two encodings of x and y bytes have
+-- a queue and room for the marks of three parts, of so many bytes each, by the rule of their size n
 pub record SplitRoom (n x y queue marks : ℕ) : Type 0 where
-  pub sized : is_size n ≡ true
-  pub few : n ≤ large
-  pub first : edges_within x ≤ 8 * n
-  pub second : edges_within y ≤ 8 * n
+  pub serves : Serves n x y
   pub flags : queue ≡ queue_for n
   pub records : marks ≡ marks_for n
 

@@ -7,6 +7,7 @@ use Rattle.loes.specs.Edges.{ones, rank}
 use Rattle.bits.proofs.Counts.{ones_more}
 use Rattle.loes.specs.Encode.{block_ones, sub_block_ones}
 use Rattle.encoding.proofs.Index.{sub_block_start}
+use Rattle.build.specs.declared.seen.Seen.{Seen}
 use Rattle.build.proofs.Front.{numbers_more, numbers_again}
 use Rattle.build.proofs.Shape.{rank_value, first_sub}
 use Rattle.build.proofs.put_counts.Goals as goal
@@ -30,21 +31,17 @@ counts l x b j bytes n base old same q at h given known =
       ],
     )
 
--- counting on does not take away
-counted_on : (l x y : Bytes) (i k m n : ℕ) → x ≡ l → y ≡ l → m ≡ ones (bits_in x (8 * i)) → n ≡ ones (bits_in y (8 * k)) → i ≤ k → m ≤ n
-counted_on l x y i k m n hx hy p q le =
-    let z : 8 * i + 8 * (k - i) ≡ 8 * k = omega arith in
-    let s : ones (bits_in l (8 * k)) ≡ ones (bits_in l (8 * i)) + ones (bits_in (drop i l) (8 * (k - i))) = rw z at (ones_more l i (8 * (k - i))) in
-    let a : m ≡ ones (bits_in l (8 * i)) = p ∙ ap (λ t. ones (bits_in t (8 * i))) hx in
-    let b : n ≡ ones (bits_in l (8 * k)) = q ∙ ap (λ t. ones (bits_in t (8 * k))) hy in
-    omega (arith, a, b, s)
-
--- so a base that is the old one, or is set to no more than what is counted, is no more than that
-base_low : (j set old m n r : ℕ) → (j % 128 ≡ 0 → r ≡ set) × ((j % 128 ≡ 0 → ⊥) → r ≡ old) → set ≤ n → old ≤ m → m ≤ n → r ≤ n
-base_low j set old m n r given last low on =
+-- counting on takes nothing away, so a base that is the old one, or is set to no more than what is counted, is no more than that
+base_low : (l : Bytes) (s k : Seen) (j set old r : ℕ) → s.edges.now ≡ l → k.edges.now ≡ l → s.bytes ≤ k.bytes → (j % 128 ≡ 0 → r ≡ set) × ((j % 128 ≡ 0 → ⊥) → r ≡ old)
+    → set ≤ k.ones → old ≤ s.ones → r ≤ k.ones
+base_low l s k j set old r hs hk on given last low =
+    let z : 8 * s.bytes + 8 * (k.bytes - s.bytes) ≡ 8 * k.bytes = omega arith in
+    let more : ones (bits_in l (8 * k.bytes)) ≡ ones (bits_in l (8 * s.bytes)) + ones (bits_in (drop s.bytes l) (8 * (k.bytes - s.bytes))) = rw z at (ones_more l s.bytes (8 * (k.bytes - s.bytes))) in
+    let before : s.ones ≡ ones (bits_in l (8 * s.bytes)) = s.counted ∙ ap (λ t. ones (bits_in t (8 * s.bytes))) hs in
+    let now : k.ones ≡ ones (bits_in l (8 * k.bytes)) = k.counted ∙ ap (λ t. ones (bits_in t (8 * k.bytes))) hk in
     elim (dec_le (j % 128) 0) [
       | yes z ↦ omega (arith, given.0 (omega arith), last)
-      | no z ↦ omega (arith, given.1 (λ w. absurd (omega (arith, w))), low, on)
+      | no z ↦ omega (arith, given.1 (λ w. absurd (omega (arith, w))), low, before, now, more)
     ]
 
 next_block : (j : ℕ) → ((j + 1) % 128 ≡ 0 → ⊥) → (j + 1) / 128 ≡ j / 128
@@ -94,9 +91,7 @@ put-requires c =
 pub overflow_sub-seen : goal.overflow_sub-seen
 overflow_sub-seen c =
     let k = c.count_to-seen in
-    let s = c.loop-j.seen in
-    let on = counted_on c.args.edges.now s.edges.now k.result.edges.now s.bytes k.result.bytes s.ones k.result.ones c.loop-j.invariant.same (k.ensures.0 ∙ c.loop-j.invariant.same) s.counted k.result.counted (omega (arith, k.ensures.1, c.loop-j.invariant.near)) in
-    base_low c.loop-j.j _ c.loop-j.base s.ones k.result.ones c.block_base-base.result c.block_base-base.ensures (omega arith) c.loop-j.invariant.low on
+    base_low c.args.edges.now c.loop-j.seen k.result c.loop-j.j _ c.loop-j.base c.block_base-base.result c.loop-j.invariant.same (k.ensures.0 ∙ c.loop-j.invariant.same) (omega (arith, k.ensures.1, c.loop-j.invariant.near)) c.block_base-base.ensures (omega arith) c.loop-j.invariant.low
 
 pub loop-j-preserved : goal.loop-j-preserved
 loop-j-preserved c =
@@ -107,13 +102,11 @@ loop-j-preserved c =
     let base = c.block_base-base in
     let same = k.ensures.0 ∙ c.loop-j.invariant.same in
     let q = counts c.args.edges.now k.result.edges.now c.args.b j k.result.bytes k.result.ones base.result c.loop-j.base same k.result.counted k.ensures.1 h.1 base.ensures c.loop-j.invariant.base in
-    let s = c.loop-j.seen in
-    let on = counted_on c.args.edges.now s.edges.now k.result.edges.now s.bytes k.result.bytes s.ones k.result.ones c.loop-j.invariant.same same s.counted k.result.counted (omega (arith, k.ensures.1, c.loop-j.invariant.near)) in
     let difference : k.result.ones - base.result ≡ sub_block_ones e j = omega (arith, sub_block_start e j) in
     record {
       same = same;
       near = omega arith;
-      low = base_low j _ c.loop-j.base c.loop-j.seen.ones k.result.ones base.result base.ensures (omega arith) c.loop-j.invariant.low on;
+      low = base_low c.args.edges.now c.loop-j.seen k.result j _ c.loop-j.base base.result c.loop-j.invariant.same same (omega (arith, k.ensures.1, c.loop-j.invariant.near)) base.ensures (omega arith) c.loop-j.invariant.low;
       base = λ z. q.1 ∙ ap (block_ones e) (sym (next_block j z));
       of_blocks = blocks_more (block_ones e) j base.result c.args.blocks.now c.loop-j.blocks c.put.new.out q.1 (omega arith) (omega arith) c.loop-j.invariant.of_blocks c.put.ensures;
       of_sub_blocks = numbers_more [] c.args.sub_blocks.now c.loop-j.sub_blocks c.put-in-loop-j.new.out 2 (sub_block_ones e) j (2 * j) (omega arith) c.loop-j.invariant.of_sub_blocks (omega arith) (k.result.ones - base.result) difference c.put-in-loop-j.ensures;
