@@ -28,13 +28,13 @@ use Rattle.encoding.proofs.Opened.{opens_room}
 use Rattle.encoding.specs.declared.Encoding.{Encoding}
 use Rattle.encoding.specs.declared.opening.Opened.{Opened}
 use Rattle.records.specs.Records.{Packed}
-use Rattle.records.specs.Numbers.{overread}
+use Rattle.records.specs.Numbers.{overread, overwrite}
 use Rattle.build.specs.Writing.{HoldsOnly}
 use Rattle.records.proofs.Sealing.{written_bits, written_room}
 use Rattle.join.specs.declared.Join.{Join}
 use Rattle.join.specs.declared.Join.TheVariants as join
 use Rattle.merge.specs.Union.{QueueRoom}
-use Rattle.join.specs.Joining.{join_of, join_call, pair_refusal, Joined, edges_within, RoomFor}
+use Rattle.join.specs.Joining.{join_of, join_call, pair_refusal, Joined, edges_within, queue_for, large, RoomFor}
 use Rattle.join.specs.declared.pair.Pair.{Pair}
 
 -- ---- Two checks
@@ -161,14 +161,21 @@ opens_over l e p = rw (length-drop e.edges l) (omega (arith, (opens_room l e p).
 pub opened_within : (o : Opened) (a : Bytes) (x : ℕ) → o.bytes.now ≡ a → x ≡ o.encoding.bits → x ≤ edges_within (length a)
 opened_within o a x h e = rw (← h, e) (let i = opens_short o.bytes.now o.encoding o.opens in let j = (opens_room o.bytes.now o.encoding o.opens).few in omega arith)
 
--- the rooms, cleared, serve what two encodings of these lengths have
-pub rooms_serve : (n queue edges : ℕ) (p : Pair) (a b : Bytes) (x y : ℕ) → p.first.bytes.now ≡ a → p.second.bytes.now ≡ b → x ≡ p.first.encoding.bits → y ≡ p.second.encoding.bits
-    → RoomFor n (length a) (length b) queue edges → QueueRoom x y (replicate queue 0) × (x < 8 * length {A = ℕ} (replicate edges 0))
-rooms_serve n queue edges p a b x y ha hb hx hy r =
+-- rooms that are enough and not too large, cleared, serve what two encodings of these lengths have
+pub rooms_serve : (queue edges : ℕ) (p : Pair) (a b : Bytes) (x y : ℕ) → p.first.bytes.now ≡ a → p.second.bytes.now ≡ b → x ≡ p.first.encoding.bits → y ≡ p.second.encoding.bits
+    → edges_within (length a) + edges_within (length b) + 1 + overwrite ≤ 4 * queue → edges_within (length a) < 8 * edges → queue ≤ queue_for large
+    → QueueRoom x y (replicate queue 0) × (x < 8 * length {A = ℕ} (replicate edges 0))
+rooms_serve queue edges p a b x y ha hb hx hy flags first few =
     let i = opened_within p.first a x ha hx in
     let j = opened_within p.second b y hb hy in
     let long : (n : ℕ) → length {A = ℕ} (replicate n 0) ≡ n = λ n. length-replicate n 0 in
-    (record { queue = omega (arith, i, j, long queue, r.flags, r.serves.first, r.serves.second); small = omega (arith, long queue, r.flags, r.serves.few) }, omega (arith, i, long edges, r.rest, r.serves.first))
+    (record { queue = omega (arith, i, j, long queue, flags); small = omega (arith, long queue, few) }, omega (arith, i, long edges, first))
+
+-- and so do those of a size that serves
+pub sized_rooms_serve : (n queue edges : ℕ) (p : Pair) (a b : Bytes) (x y : ℕ) → p.first.bytes.now ≡ a → p.second.bytes.now ≡ b → x ≡ p.first.encoding.bits → y ≡ p.second.encoding.bits
+    → RoomFor n (length a) (length b) queue edges → QueueRoom x y (replicate queue 0) × (x < 8 * length {A = ℕ} (replicate edges 0))
+sized_rooms_serve n queue edges p a b x y ha hb hx hy r =
+    rooms_serve queue edges p a b x y ha hb hx hy (omega (arith, r.flags, r.serves.first, r.serves.second)) (omega (arith, r.rest, r.serves.first)) (omega (arith, r.flags, r.serves.few))
 
 -- ---- Edges that hold an entry
 module _ {m b : ℕ} {l : Bytes} (h : Holds m b l) where

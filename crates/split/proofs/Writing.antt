@@ -1,6 +1,6 @@
 -- From the edges of three parts to the call, and the rooms.
 use mathlib.Core.Path.{◌≡◌, refl, sym, ap, ap₂, ◌∙◌}
-use Prim.Native.Nat.{ℕ, ◌+◌, ◌/◌, ◌≤◌}
+use Prim.Native.Nat.{ℕ, ◌+◌, ◌*◌, ◌/◌, ◌≤◌}
 use mathlib.Core.Bool.{Bool, true, false, ◌||◌, or-false}
 use mathlib.Core.List.{List, [], ◌∷◌, map}
 use mathlib.Core.Option.{some}
@@ -23,14 +23,15 @@ use Rattle.loes.proofs.Histories.{difference_valid, both_valid}
 use Rattle.loes.proofs.Splits.{both_fewer, difference_fewer}
 use Rattle.build.proofs.Fields.{held_length}
 use Rattle.records.specs.Records.{Packed}
-use Rattle.join.specs.Joining.{pair_refusal, Joined}
+use Rattle.records.specs.Numbers.{overread, overwrite}
+use Rattle.join.specs.Joining.{pair_refusal, Joined, edges_within, queue_for, large}
 use Rattle.join.specs.declared.pair.Pair.{Pair}
 use Rattle.join.specs.declared.joined.JoinedEdges.{JoinedEdges}
 use Rattle.records.specs.declared.edge_bytes.EdgeBytes.{EdgeBytes}
 use Rattle.join.proofs.Joins.{opened_within, widths_same, pair_alike, pair_refused, held_valid, join_held, join_joined, joined_bits}
 use Rattle.divide.specs.declared.Three.{Three}
 use Rattle.divide.specs.Division.{MarksFit, Divided, DivideRoom}
-use Rattle.split.specs.Splitting.{SplitRoom}
+use Rattle.split.specs.Splitting.{marks_for, SplitRoom}
 
 -- ---- Three entries whose edges are not too many
 module _ (u v w : JoinedEdges) (fu : u.bits ≤ max_edges) (fv : v.bits ≤ max_edges) (fw : w.bits ≤ max_edges) (xs ys zs : Bytes) where
@@ -128,12 +129,21 @@ split_parts p a b x y z d e s t u ha hb hd he hs ht hu =
     ∙ ap (λ o. o.outcome) (sym (writes_on (join_tests d e) _ (x ∷ y ∷ z ∷ []) (widths_same d e w)))
     ∙ sym (rw (ra, rb))
 
--- ---- The rooms, cleared, serve what two encodings of these lengths have
-pub rooms_serve : (n queue marks : ℕ) (p : Pair) (a b : Bytes) (x y : ℕ) → p.first.bytes.now ≡ a → p.second.bytes.now ≡ b → x ≡ p.first.encoding.bits → y ≡ p.second.encoding.bits
-    → SplitRoom n (length a) (length b) queue marks → DivideRoom x y (replicate queue 0) (replicate marks 0) (replicate marks 0) (replicate marks 0)
-rooms_serve n queue marks p a b x y ha hb hx hy r =
+-- ---- Rooms that are enough and not too large, cleared, serve what two encodings of these lengths have
+pub rooms_serve : (queue marks : ℕ) (p : Pair) (a b : Bytes) (x y : ℕ) → p.first.bytes.now ≡ a → p.second.bytes.now ≡ b → x ≡ p.first.encoding.bits → y ≡ p.second.encoding.bits
+    → edges_within (length a) + edges_within (length b) + 1 + overwrite ≤ 4 * queue → (edges_within (length a) + edges_within (length b)) / 2 + overread ≤ 4 * marks
+    → queue ≤ queue_for large → marks ≤ marks_for large → DivideRoom x y (replicate queue 0) (replicate marks 0) (replicate marks 0) (replicate marks 0)
+rooms_serve queue marks p a b x y ha hb hx hy flags records few_flags few_marks =
     let i = opened_within p.first a x ha hx in
     let j = opened_within p.second b y hb hy in
     let long : (n : ℕ) → length {A = ℕ} (replicate n 0) ≡ n = λ n. length-replicate n 0 in
-    let fits : MarksFit ((x + y) / 2) (replicate marks 0) = record { room = omega (arith, i, j, long marks, r.records, r.serves.first, r.serves.second); small = omega (arith, long marks, r.records, r.serves.few) } in
-    record { queue = record { queue = omega (arith, i, j, long queue, r.flags, r.serves.first, r.serves.second); small = omega (arith, long queue, r.flags, r.serves.few) }; both = fits; only_first = fits; only_second = fits }
+    let fits : MarksFit ((x + y) / 2) (replicate marks 0) = record { room = omega (arith, i, j, long marks, records); small = omega (arith, long marks, few_marks) } in
+    record { queue = record { queue = omega (arith, i, j, long queue, flags); small = omega (arith, long queue, few_flags) }; both = fits; only_first = fits; only_second = fits }
+
+-- and so do those of a size that serves
+pub sized_rooms_serve : (n queue marks : ℕ) (p : Pair) (a b : Bytes) (x y : ℕ) → p.first.bytes.now ≡ a → p.second.bytes.now ≡ b → x ≡ p.first.encoding.bits → y ≡ p.second.encoding.bits
+    → SplitRoom n (length a) (length b) queue marks → DivideRoom x y (replicate queue 0) (replicate marks 0) (replicate marks 0) (replicate marks 0)
+sized_rooms_serve n queue marks p a b x y ha hb hx hy r =
+    let serve = rooms_serve queue marks p a b x y ha hb hx hy in
+    let s = r.serves in
+    serve (omega (arith, r.flags, s.first, s.second)) (omega (arith, r.records, s.first, s.second)) (omega (arith, r.flags, s.few)) (omega (arith, r.records, s.few))

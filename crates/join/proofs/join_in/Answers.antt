@@ -4,7 +4,7 @@ use Rattle.loes.specs.Model.{refusal}
 use Rattle.build.specs.Writing.{written_outcome}
 use Rattle.join.specs.declared.Join.TheVariants.{Union, Difference}
 use Rattle.join.specs.Joining.{join_of}
-use Rattle.join.proofs.Joins.{rooms_serve, join_refused, joined_call}
+use Rattle.join.proofs.Joins.{sized_rooms_serve, join_refused, joined_call}
 use Rattle.join.proofs.join_in.Goals as goal
 
 pub returns-in_err-pair : goal.returns-in_err-pair
@@ -15,11 +15,11 @@ returns-in_err-pair g c =
 
 pub united-requires-clause-queue_room : goal.united-requires-clause-queue_room
 united-requires-clause-queue_room g c =
-    (rooms_serve g.row.N g.row.QUEUE g.row.EDGES c.in_ok-pair.pair _ _ _ _ c.in_ok-pair.ensures.0 c.in_ok-pair.ensures.1 c.edge_bytes-first.ensures.place.1 c.edge_bytes-second.ensures.place.1 c.requires).0
+    (sized_rooms_serve g.row.N g.row.QUEUE g.row.EDGES c.in_ok-pair.pair _ _ _ _ c.in_ok-pair.ensures.0 c.in_ok-pair.ensures.1 c.edge_bytes-first.ensures.place.1 c.edge_bytes-second.ensures.place.1 c.requires).0
 
 pub left-requires-clause-queue_room : goal.left-requires-clause-queue_room
 left-requires-clause-queue_room g c =
-    rooms_serve g.row.N g.row.QUEUE g.row.EDGES c.in_ok-pair.pair _ _ _ _ c.in_ok-pair.ensures.0 c.in_ok-pair.ensures.1 c.edge_bytes-first.ensures.place.1 c.edge_bytes-second.ensures.place.1 c.requires
+    sized_rooms_serve g.row.N g.row.QUEUE g.row.EDGES c.in_ok-pair.pair _ _ _ _ c.in_ok-pair.ensures.0 c.in_ok-pair.ensures.1 c.edge_bytes-first.ensures.place.1 c.edge_bytes-second.ensures.place.1 c.requires
 
 pub returns-in-Union : goal.returns-in-Union
 returns-in-Union g c =

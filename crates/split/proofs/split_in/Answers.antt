@@ -1,7 +1,7 @@
 use mathlib.Core.Path.{sym, ◌∙◌}
 use Rattle.std.proofs.lemmas.Result.{err_from_is_err_and}
 use Rattle.split.specs.Splitting.{split_outcome}
-use Rattle.split.proofs.Writing.{rooms_serve, split_refused, split_parts}
+use Rattle.split.proofs.Writing.{sized_rooms_serve, split_refused, split_parts}
 use Rattle.split.proofs.split_in.Goals as goal
 
 pub returns-in_err-pair : goal.returns-in_err-pair
@@ -12,7 +12,7 @@ returns-in_err-pair g c =
 
 pub parts_of-parts-requires-clause-divide_room : goal.parts_of-parts-requires-clause-divide_room
 parts_of-parts-requires-clause-divide_room g c =
-    rooms_serve g.row.N g.row.QUEUE g.row.MARKS c.in_ok-pair.pair _ _ _ _ c.in_ok-pair.ensures.0 c.in_ok-pair.ensures.1 c.edge_bytes-first.ensures.place.1 c.edge_bytes-second.ensures.place.1 c.requires
+    sized_rooms_serve g.row.N g.row.QUEUE g.row.MARKS c.in_ok-pair.pair _ _ _ _ c.in_ok-pair.ensures.0 c.in_ok-pair.ensures.1 c.edge_bytes-first.ensures.place.1 c.edge_bytes-second.ensures.place.1 c.requires
 
 pub returns : goal.returns
 returns g c =
